@@ -1,0 +1,4 @@
+pub mod Registers
+pub mod States
+pub mod Quiet
+pub mod Drives
