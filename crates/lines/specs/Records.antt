@@ -1,5 +1,5 @@
 -- The record of an outcome: two digits of a number, eight of a word, and the end of the line.
-use mathlib.Core.List.{List, [], _∷_}
+use mathlib.Core.List.{List, [], _∷_, _++_}
 use Prim.Native.Nat.{ℕ, _+_, _*_, _/_, _%_, _^_}
 use Rattle.lines.specs.declared.outcome.Outcome.{Outcome}
 use Rattle.lines.specs.declared.outcome.Outcome.the-variants.{Value, Refused}
@@ -14,13 +14,13 @@ abbrev pub word-of : Outcome → ℕ
 word-of (Value word) = word
 word-of (Refused number layer at) = layer * 0x1000000 + at
 
+-- the two digits of a byte, the higher one first
+abbrev pub two : ℕ → List ℕ
+two byte = letter (byte / 16) ∷ letter (byte % 16) ∷ []
+
 abbrev pub written : ℕ → ℕ → List ℕ
 written number word =
-    letter (number / 16) ∷ letter (number % 16) ∷
-    letter (word / 0x10000000) ∷ letter (word / 0x1000000 % 16) ∷
-    letter (word / 0x100000 % 16) ∷ letter (word / 0x10000 % 16) ∷
-    letter (word / 0x1000 % 16) ∷ letter (word / 0x100 % 16) ∷
-    letter (word / 16 % 16) ∷ letter (word % 16) ∷ 10 ∷ []
+    two number ++ (two (word / 0x1000000) ++ (two (word / 0x10000 % 0x100) ++ (two (word / 0x100 % 0x100) ++ (two (word % 0x100) ++ (10 ∷ [])))))
 
 abbrev pub record-of : Outcome → List ℕ
 record-of o = written (number-of o) (word-of o)

@@ -1,5 +1,5 @@
 ghost use mathlib.Core.Path.{_≡_};
-ghost use Rattle.lines.specs.Records.{number-of, word-of, record-of};
+ghost use Rattle.lines.specs.Records.{number-of, word-of, two, record-of};
 use crate::digits::letter;
 
 // What came of a line.
@@ -34,20 +34,19 @@ impl Outcome {
     pub fn record(self) -> [u8; 11]
         ensures { λ r. ⌜ r ≡ record-of self ⌝ }
     {
-        let number = self.number();
         let word = self.word();
-        [
-            letter(number / 16),
-            letter(number % 16),
-            letter((word / 0x1000_0000) as u8),
-            letter((word / 0x100_0000 % 16) as u8),
-            letter((word / 0x10_0000 % 16) as u8),
-            letter((word / 0x1_0000 % 16) as u8),
-            letter((word / 0x1000 % 16) as u8),
-            letter((word / 0x100 % 16) as u8),
-            letter((word / 16 % 16) as u8),
-            letter((word % 16) as u8),
-            b'\n',
-        ]
+        let [n1, n0] = two(self.number());
+        let [a1, a0] = two((word / 0x100_0000) as u8);
+        let [b1, b0] = two((word / 0x1_0000 % 0x100) as u8);
+        let [c1, c0] = two((word / 0x100 % 0x100) as u8);
+        let [d1, d0] = two((word % 0x100) as u8);
+        [n1, n0, a1, a0, b1, b0, c1, c0, d1, d0, b'\n']
     }
+}
+
+// The two digits of a byte, the higher one first.
+fn two(byte: u8) -> [u8; 2]
+    ensures { λ r. ⌜ r ≡ two byte ⌝ }
+{
+    [letter(byte / 16), letter(byte % 16)]
 }
