@@ -10,6 +10,8 @@ use Rattle.station.specs.declared.call.Call.{Call}
 use Rattle.station.specs.declared.call.Call.the-variants as call
 use Rattle.station.specs.declared.facts.Facts.{Facts}
 use Rattle.station.specs.declared.refusal.Refusal.{Refusal as Turned}
+use Rattle.falls.specs.Forecasts.{foretold, unsettled, told as forecast}
+use Rattle.falls.specs.declared.forecast.Forecast.{Forecast}
 use Rattle.bench.specs.declared.Bench.{Bench}
 use Rattle.bench.specs.declared.refusal.Refusal.{Refusal}
 use Rattle.bench.specs.declared.refusal.Refusal.the-variants.{NoPlace, Station, TooMany}
@@ -35,6 +37,10 @@ after-at m b place c = cond (ltb place (places m b)) (record { chain = m .called
 -- what there is to see of a place
 abbrev pub looked : {S : Type 0} → Meaning S → Bench S → ℕ → Result Facts Refusal
 looked m b place = cond (ltb place (places m b)) (Ok (m .fact (b .chain) place)) (Err (NoPlace place))
+
+-- what is to become of a place, if the outside line stays at a level and nothing more happens
+abbrev pub foreseen : {S : Type 0} → Meaning S → Bench S → Bool → ℕ → Result Forecast Refusal
+foreseen m b level place = cond (ltb place (places m b)) (Ok (forecast (unsettled m (b .chain)) (foretold m (b .chain) level place))) (Err (NoPlace place))
 
 -- a chain after n ticks, in all of which the outside line is at one level
 unfoldable pub ticks : {S : Type 0} → Meaning S → S → Bool → ℕ → S

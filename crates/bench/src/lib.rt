@@ -5,7 +5,11 @@ ghost use lib.Dec.{ltb};
 ghost use Rattle.std.specs.Results.{Cases};
 ghost use Rattle.bench.specs.declared.refusal.Refusal.the-variants.{NoPlace};
 ghost use Rattle.bench.specs.declared.request.Request.the-variants.{Read, Write, Wire, Run, Volts};
-ghost use Rattle.bench.specs.Calls.{places, told, ticks, looked, reply, performed};
+ghost use Rattle.falls.specs.Forecasts.{Foretells};
+ghost use Rattle.falls.specs.Law.{Law};
+ghost use Rattle.bench.specs.Calls.{places, told, ticks, looked, foreseen, reply, performed};
+use falls::forecast::Forecast;
+use falls::foretell;
 use refusal::Refusal;
 use station::Station;
 use station::facts::Facts;
@@ -110,6 +114,17 @@ impl<S: Station> Bench<S> {
     {
         let at = self.at(place)?;
         Ok(self.chain.facts(at))
+    }
+
+    // What is to become of a place, if from now on no wire changes, no guard call is made and the
+    // outside line stays at a level. The law of falls stands behind the answer.
+    pub fn foretell(&self, level: bool, place: u8) -> Result<Forecast, Refusal>
+        ensures value { λ r. ⌜ r ≡ foreseen (S·Station .meaning) (now (self .entry)) level place ⌝ }
+        ensures foretells { λ _. ⌜ Foretells (S·Station .meaning) (now (self .entry) .chain) level ⌝ }
+        ensures law { λ _. ⌜ Law (S·Station .meaning) ⌝ }
+    {
+        let at = self.at(place)?;
+        Ok(foretell(&self.chain, level, at))
     }
 
     // Makes n ticks, in all of which the outside line is at a level, and answers n.

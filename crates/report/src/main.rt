@@ -1,5 +1,6 @@
 // Replays a trace from standard input on three drives and prints it with its answers, followed by
-// an account for people: what was refused and why, and when each place came to rest.
+// an account for people: what was refused and why, when each place came to rest, and when the
+// others will.
 use account::account_of;
 use bench::Bench;
 use drive::calls::DriveStation;
@@ -9,6 +10,7 @@ use station::joined::JoinedStation;
 use std::error::AnyError;
 use std::io::Read;
 
+mod forecasts;
 mod listing;
 mod places;
 mod refusals;
@@ -31,6 +33,7 @@ fn run(rt: &LibcRuntime) -> Result<(), AnyError> {
     refusals::write_tally(&mut text, &account.outcomes, account.watch.ticks)?;
     refusals::write_refusals(&mut text, &account.outcomes)?;
     places::write_places(&mut text, &account.watch)?;
+    forecasts::write_forecasts(&mut text, &account.watch)?;
     rt.print(text)?;
     Ok(())
 }

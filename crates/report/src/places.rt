@@ -26,7 +26,7 @@ fn write_rest(out: &mut String, rest: Option<Rest>) -> fmt::Result {
         return write!(out, "{:<4}  {:>10}  {:>12}  {:<36}", "no", "-", "-", "-");
     };
     let tick = rest.tick;
-    let time = Microseconds::of_ticks(tick);
+    let time = Microseconds::of_ticks(u128::from(tick));
     let whole = time.whole;
     let hundredths = time.hundredths;
     let cause = why(rest);

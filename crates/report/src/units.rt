@@ -6,12 +6,12 @@ use std::fmt;
 // A time in microseconds: whole ones, and hundredths.
 #[derive(Clone, Copy)]
 pub struct Microseconds {
-    pub whole: u64,
-    pub hundredths: u64,
+    pub whole: u128,
+    pub hundredths: u128,
 }
 
 impl Microseconds {
-    pub fn of_ticks(ticks: u64) -> Microseconds
+    pub fn of_ticks(ticks: u128) -> Microseconds
         ensures same { λ r. ⌜ r .whole * 100 + r .hundredths ≡ 3 * ticks ⌝ }
         ensures part { λ r. ⌜ r .hundredths < 100 ⌝ }
     {
