@@ -8,7 +8,7 @@ use std::fmt::Write;
 // What a refusal's number means, and what would be right.
 fn sentence(number: u8) -> &'static str {
     match number {
-        1 => "that place is not in the chain, whose places are 0 to 2",
+        1 => "that place is not in the chain: it has 0, 1 and 2",
         2 => "there is no such register, wire or channel at that place",
         3 => "that register can only be written",
         4 => "that register can only be read",
@@ -16,7 +16,7 @@ fn sentence(number: u8) -> &'static str {
         6 => "one run makes at most 1000000 ticks (000F4240)",
         10 => "that character is no digit: 0 to 9 and A to F are",
         11 => "the first two digits name no kind of line: 01, 02, 03, 04 and 07 do",
-        12 => "the line ends too early or too late for its kind",
+        12 => "the length is wrong: kinds 01 and 03 have 14 digits, 04 has 12, 02 and 07 have 6",
         13 => "a line has at most 80 characters",
         _ => "refused",
     }
@@ -45,9 +45,14 @@ pub fn write_refusals(out: &mut String, outcomes: &[Outcome]) -> fmt::Result {
     for outcome in outcomes {
         line = line.saturating_add(1);
         if let Outcome::Refused { number, layer, at } = *outcome {
-            let what = if layer == 1 { "column" } else { "place" };
+            write!(out, "line {line}, ")?;
+            match (layer, number) {
+                (1, _) => write!(out, "column {at}")?,
+                (_, 6) => write!(out, "its count")?,
+                _ => write!(out, "place {at}")?,
+            }
             let meaning = sentence(number);
-            writeln!(out, "line {line}, {what} {at}: refusal {number}, {meaning}")?;
+            writeln!(out, ": refusal {number}, {meaning}")?;
         }
     }
     Ok(())
