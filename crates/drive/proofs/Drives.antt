@@ -5,9 +5,9 @@ use mathlib.Core.HLevel.{isProp→PathP}
 use Prim.Native.Nat.{ℕ, zero, suc, _+_, _-_, _<_, _≤_}
 use native.Mathlib.Omega.{arith}
 use lib.Dec.{eqb, ltb}
-use lib.IntN.{ℤ, pos}
+use lib.IntN.{ℤ, pos, negsuc}
 use borrow.Author.Needs.{needs}
-use Rattle.std.proofs.shelf.Tests.{cond-both, true≢false}
+use Rattle.std.proofs.shelf.Tests.{cond-both, true≢false, eqb-true}
 use Rattle.std.specs.Results.{isOk}
 use Rattle.std.specs.declared.result.Result.{Result}
 use Rattle.std.specs.declared.result.Result.the-variants.{Ok, Err}
@@ -25,6 +25,7 @@ use Rattle.drive.specs.declared.register.Register.{Register}
 use Rattle.drive.specs.declared.register.Register.the-variants.{Setpoint, Listen, Fall}
 use Rattle.drive.specs.Drives.{drive, settled, became, called, answered, changes, guarding, guards}
 use Rattle.drive.specs.Quiet.{quiet}
+use Rattle.drive.specs.Rest.{Rest}
 use Rattle.drive.specs.Registers.{numbered, flag, word}
 use Rattle.drive.specs.States.{seen, still, after, with-setpoint, with-listen, with-stop, cleared, written, wired}
 
@@ -153,3 +154,21 @@ drive-rules = record {
   acknowledged = λ d p bits. refl;
   volts-look = λ d p channel. refl;
 }
+
+-- a set point is 0 exactly if the drive is still
+zero-still : (z : ℤ) → still z ≡ true → z ≡ pos 0
+zero-still (pos n) e = ap pos (eqb-true n 0 e)
+zero-still (negsuc n) e = absurd (true≢false (sym e))
+
+held-zero : (latch : Bool) (z : ℤ) → cond latch (still z) true ≡ true → latch ≡ true → z ≡ pos 0
+held-zero true z rests e = zero-still z rests
+held-zero false z rests e = absurd (true≢false (sym e))
+
+pub drive-rest : (d : Drive) (p : ℕ) → Rest d p
+drive-rest d p =
+    let zero = held-zero (d .state .latch) (d .state .setpoint) (d .rests) in
+    record {
+      exact = (zero-still (d .state .setpoint), λ e. ap still e);
+      held-still = zero;
+      held-silent = λ held. ap Ok (zero held);
+    }

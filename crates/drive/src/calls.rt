@@ -1,4 +1,7 @@
 ghost use mathlib.Core.Path.{_≡_};
+ghost use Prim.Native.Nat.{ℕ};
+ghost use Rattle.drive.specs.declared.motor.Drive.{Drive};
+ghost use Rattle.drive.specs.Rest.{Rest};
 ghost use Rattle.drive.specs.Drives.{drive, settled, fresh};
 use crate::motor::Drive;
 use crate::state::State;
@@ -20,6 +23,14 @@ impl Drive {
             stopped: false,
             stop: false,
         })
+    }
+
+    // The set point that is in force. A held drive is at rest: its set point is 0.
+    pub fn setpoint(&self) -> i16
+        ensures value { λ r. ⌜ r ≡ now (self .entry) .state .setpoint ⌝ }
+        ensures rest { λ _. ⌜ ((d : Drive) (p : ℕ) → Rest d p) ⌝ }
+    {
+        self.state.setpoint
     }
 
     // The drive in a state, its set point 0 where the latch is set.

@@ -77,9 +77,9 @@ module _ {S : Type 0} (m : Meaning S) (R : Rules m) where
     own-now h j a e =
         own-is m s (tick level ∷ h) j ∙
         ⊎-elim
-          (λ due. ap (λ d. earlier d (outer m s (tick level ∷ h) j)) (due-one _ due) ∙ first-earlier _ (counted-outer m s (tick level ∷ h) j))
-          (λ out. ap (earlier (m .fact s j .due)) (outer-now m s level h j out) ∙ earlier-first _ (counted-due _ (R .sound s j (a .1) .due-from-one)))
-          (or-cases _ _ e)
+        (λ due. ap (λ d. earlier d (outer m s (tick level ∷ h) j)) (due-one _ due) ∙ first-earlier _ (counted-outer m s (tick level ∷ h) j))
+        (λ out. ap (earlier (m .fact s j .due)) (outer-now m s level h j out) ∙ earlier-first _ (counted-due _ (R .sound s j (a .1) .due-from-one)))
+        (or-cases _ _ e)
 
     -- a place that falls has a cause of its own, or is behind one that is held
     fall-from : (j : ℕ) → Addressed m s j → Settled s → falls (m .fact s j) (heard m s level j) ≡ true →
@@ -87,20 +87,26 @@ module _ {S : Type 0} (m : Meaning S) (R : Rules m) where
     fall-from zero a settled e = inl e
     fall-from (suc i) a settled e =
         ⊎-elim
-          (λ due. inl (or-left-of due))
-          (λ rest. ⊎-elim
-            (λ stop. inl (or-right _ _ (ap (λ b. b || false) stop)))
-            (λ low. inr (i, refl, ⊎-elim
+        (λ due. inl (or-left-of due))
+        (λ rest. ⊎-elim
+        (λ stop. inl (or-right _ _ (ap (λ b. b || false) stop)))
+        (λ low. inr (
+          i,
+          refl,
+          ⊎-elim
               (λ ready. let f = R .sound s i (a-i .1) in clash (f .line-tells (f .ready-passes ready) ∙ ap not (f .ready-free ready)) (not-true-of low))
               (λ h. h .0)
-              (settled i a-i)))
-            (or-cases _ _ rest))
-          (or-cases _ _ e)
+              (settled i a-i),
+        ))
+        (or-cases _ _ rest))
+        (or-cases _ _ e)
       where
         a-i : Addressed m s i
         a-i = (omega (arith, a .0), omega (arith, a .1))
+
         or-left-of : due-now (m .fact s (suc i) .due) ≡ true → (due-now (m .fact s (suc i) .due) || (m .fact s (suc i) .stop || false)) ≡ true
         or-left-of e = ap (λ b. b || (m .fact s (suc i) .stop || false)) e
+
         not-true-of : not (m .fact s i .line) ≡ true → m .fact s i .line ≡ false
         not-true-of e = grind arith
 
@@ -124,12 +130,12 @@ module _ {S : Type 0} (m : Meaning S) (R : Rules m) where
     settles settled j a′ =
         let a : Addressed m s j = (a′ .0, subst (λ n. j < n) (R .tick-size s level) (a′ .1)) in
         ⊎-elim
-          (λ ready. ⊎-elim
-            (λ falls-now. inr (step j a .falls-exactly ready ∙ falls-now, step j a .passes-stays ∙ R .sound s j (a .1) .ready-passes ready))
-            (λ stays. inl (step j a .else-ready ready stays))
-            (cases-bool (falls (m .fact s j) (heard m s level j))))
-          (λ held. inr (step j a .held-stays (held .0), step j a .passes-stays ∙ held .1))
-          (settled j a)
+        (λ ready. ⊎-elim
+        (λ falls-now. inr (step j a .falls-exactly ready ∙ falls-now, step j a .passes-stays ∙ R .sound s j (a .1) .ready-passes ready))
+        (λ stays. inl (step j a .else-ready ready stays))
+        (cases-bool (falls (m .fact s j) (heard m s level j))))
+        (λ held. inr (step j a .held-stays (held .0), step j a .passes-stays ∙ held .1))
+        (settled j a)
 
     -- what has come to place k after the tick had come to it before, one tick earlier in the count
     come-back : (h : History) (k : ℕ) → Settled s → Addressed m s k → Come next h k → Come s (tick level ∷ h) k
@@ -137,31 +143,50 @@ module _ {S : Type 0} (m : Meaning S) (R : Rules m) where
       where
         a : Addressed m s (r .j)
         a = at s (r .j) k (r .not-beyond) ak
+
         held-after : m .fact next (r .j) .held ≡ true → Come s (tick level ∷ h) k
         held-after held =
             let zeroth : r .own ≡ 0 = some-same (r .is-own) (mine-held next h (r .j) held) in
             ⊎-elim
-              (λ ready. ⊎-elim
-                (λ own. record { j = r .j; not-beyond = r .not-beyond; own = 1;
-                  is-own = mine-free s (tick level ∷ h) (r .j) (free s (r .j) a ready) ∙ own-now h (r .j) a own;
-                  in-time = omega (arith, r .in-time) })
-                (λ behind. record { j = behind .0; not-beyond = omega (arith, r .not-beyond, behind .1); own = 0;
-                  is-own = mine-held s (tick level ∷ h) (behind .0) (behind .2);
-                  in-time = omega (arith, r .in-time, r .not-beyond, behind .1) })
-                (fall-from (r .j) a settled (sym (step (r .j) a .falls-exactly ready) ∙ held)))
-              (λ was. record { j = r .j; not-beyond = r .not-beyond; own = 0;
-                is-own = mine-held s (tick level ∷ h) (r .j) (was .0); in-time = omega (arith, r .in-time) })
-              (settled (r .j) a)
+            (λ ready. ⊎-elim
+            (λ own. record {
+              j = r .j;
+              not-beyond = r .not-beyond;
+              own = 1;
+              is-own = mine-free s (tick level ∷ h) (r .j) (free s (r .j) a ready) ∙ own-now h (r .j) a own;
+              in-time = omega (arith, r .in-time);
+            })
+            (λ behind. record {
+              j = behind .0;
+              not-beyond = omega (arith, r .not-beyond, behind .1);
+              own = 0;
+              is-own = mine-held s (tick level ∷ h) (behind .0) (behind .2);
+              in-time = omega (arith, r .in-time, r .not-beyond, behind .1);
+            })
+            (fall-from (r .j) a settled (sym (step (r .j) a .falls-exactly ready) ∙ held)))
+            (λ was. record {
+              j = r .j;
+              not-beyond = r .not-beyond;
+              own = 0;
+              is-own = mine-held s (tick level ∷ h) (r .j) (was .0);
+              in-time = omega (arith, r .in-time);
+            })
+            (settled (r .j) a)
+
         free-after : m .fact next (r .j) .held ≡ false → Come s (tick level ∷ h) k
         free-after loose =
             ⊎-elim
-              (λ ready. record { j = r .j; not-beyond = r .not-beyond; own = suc (r .own);
-                is-own = mine-free s (tick level ∷ h) (r .j) (free s (r .j) a ready)
+            (λ ready. record {
+              j = r .j;
+              not-beyond = r .not-beyond;
+              own = suc (r .own);
+              is-own = mine-free s (tick level ∷ h) (r .j) (free s (r .j) a ready)
                   ∙ own-later h (r .j) a ready (sym (step (r .j) a .falls-exactly ready) ∙ loose)
                   ∙ ap one-later (sym (mine-free next h (r .j) loose) ∙ r .is-own);
-                in-time = omega (arith, r .in-time) })
-              (λ was. clash (step (r .j) a .held-stays (was .0)) loose)
-              (settled (r .j) a)
+              in-time = omega (arith, r .in-time);
+            })
+            (λ was. clash (step (r .j) a .held-stays (was .0)) loose)
+            (settled (r .j) a)
 
     -- a place right behind one that is held is held after the tick
     passed-on : (j : ℕ) → Settled s → Addressed m s (suc j) → m .fact s j .held ≡ true → m .fact next (suc j) .held ≡ true
@@ -169,40 +194,58 @@ module _ {S : Type 0} (m : Meaning S) (R : Rules m) where
         let a-j : Addressed m s j = (omega (arith, a .0), omega (arith, a .1)) in
         let f = R .sound s j (a-j .1) in
         let low : m .fact s j .line ≡ false =
-              ⊎-elim (λ ready. clash held (f .ready-free ready)) (λ h. f .line-tells (h .1) ∙ ap not held) (settled j a-j) in
+        ⊎-elim (λ ready. clash held (f .ready-free ready)) (λ h. f .line-tells (h .1) ∙ ap not held) (settled j a-j) in
         ⊎-elim
-          (λ ready. step (suc j) a .falls-exactly ready ∙ or-right (due-now (m .fact s (suc j) .due)) _ (or-right (m .fact s (suc j) .stop) _ (ap not low)))
-          (λ h. step (suc j) a .held-stays (h .0))
-          (settled (suc j) a)
+        (λ ready. step (suc j) a .falls-exactly ready ∙ or-right (due-now (m .fact s (suc j) .due)) _ (or-right (m .fact s (suc j) .stop) _ (ap not low)))
+        (λ h. step (suc j) a .held-stays (h .0))
+        (settled (suc j) a)
 
     come-on : (h : History) (k : ℕ) → Settled s → Addressed m s k → Come s (tick level ∷ h) k → Come next h k
     come-on h k settled ak r = ⊎-elim ready-before held-before (settled (r .j) a)
       where
         a : Addressed m s (r .j)
         a = at s (r .j) k (r .not-beyond) ak
+
         held-before : (m .fact s (r .j) .held ≡ true) × (m .fact s (r .j) .passes ≡ true) → Come next h k
         held-before was =
             ⊎-elim
-              (λ (behind : r .j < k). record { j = suc (r .j); not-beyond = omega arith; own = 0;
-                is-own = mine-held next h (suc (r .j)) (passed-on (r .j) settled (at s (suc (r .j)) k (omega arith) ak) (was .0));
-                in-time = omega (arith, r .in-time, behind) })
-              (λ (last : k ≤ r .j). record { j = r .j; not-beyond = r .not-beyond; own = 0;
-                is-own = mine-held next h (r .j) (step (r .j) a .held-stays (was .0));
-                in-time = omega (arith, last) })
-              (cases-lt (r .j) k)
+            (λ (behind : r .j < k). record {
+              j = suc (r .j);
+              not-beyond = omega arith;
+              own = 0;
+              is-own = mine-held next h (suc (r .j)) (passed-on (r .j) settled (at s (suc (r .j)) k (omega arith) ak) (was .0));
+              in-time = omega (arith, r .in-time, behind);
+            })
+            (λ (last : k ≤ r .j). record {
+              j = r .j;
+              not-beyond = r .not-beyond;
+              own = 0;
+              is-own = mine-held next h (r .j) (step (r .j) a .held-stays (was .0));
+              in-time = omega (arith, last);
+            })
+            (cases-lt (r .j) k)
+
         ready-before : m .fact s (r .j) .ready ≡ true → Come next h k
         ready-before ready =
             let own = sym (mine-free s (tick level ∷ h) (r .j) (free s (r .j) a ready)) ∙ r .is-own in
             let counted = counted-some _ _ (counted-own s (tick level ∷ h) (r .j) a) own in
             ⊎-elim
-              (λ falls-now. record { j = r .j; not-beyond = r .not-beyond; own = 0;
-                is-own = mine-held next h (r .j) (step (r .j) a .falls-exactly ready ∙ falls-now);
-                in-time = omega (arith, r .in-time, counted) })
-              (λ stays. record { j = r .j; not-beyond = r .not-beyond; own = r .own - 1;
-                is-own = mine-free next h (r .j) (step (r .j) a .falls-exactly ready ∙ stays)
+            (λ falls-now. record {
+              j = r .j;
+              not-beyond = r .not-beyond;
+              own = 0;
+              is-own = mine-held next h (r .j) (step (r .j) a .falls-exactly ready ∙ falls-now);
+              in-time = omega (arith, r .in-time, counted);
+            })
+            (λ stays. record {
+              j = r .j;
+              not-beyond = r .not-beyond;
+              own = r .own - 1;
+              is-own = mine-free next h (r .j) (step (r .j) a .falls-exactly ready ∙ stays)
                   ∙ later-some _ _ (sym (own-later h (r .j) a ready stays) ∙ own);
-                in-time = omega (arith, r .in-time, counted) })
-              (cases-bool (falls (m .fact s (r .j)) (heard m s level (r .j))))
+              in-time = omega (arith, r .in-time, counted);
+            })
+            (cases-bool (falls (m .fact s (r .j)) (heard m s level (r .j))))
 
   -- the call step: nothing of what the law speaks of changes, but where a stop is set
   module _ (s : S) (p : ℕ) (c : Call) (hp : p < m .size s) (plain : m .guards s p c ≡ false) where
@@ -226,17 +269,27 @@ module _ {S : Type 0} (m : Meaning S) (R : Rules m) where
     settles-call : Settled s → Settled then
     settles-call settled j a =
         ⊎-elim
-          (λ ready. inl (keeps j (here j a) .ready ∙ ready))
-          (λ held. inr (keeps j (here j a) .held ∙ held .0, keeps j (here j a) .passes ∙ held .1))
-          (settled j (here j a))
+        (λ ready. inl (keeps j (here j a) .ready ∙ ready))
+        (λ held. inr (keeps j (here j a) .held ∙ held .0, keeps j (here j a) .passes ∙ held .1))
+        (settled j (here j a))
 
     call-back : (h : History) (k : ℕ) → Addressed m s k → Come then h k → Come s (call p c ∷ h) k
-    call-back h k ak r = record { j = r .j; not-beyond = r .not-beyond; own = r .own;
-      is-own = sym (mine-kept h (r .j) (at s (r .j) k (r .not-beyond) ak)) ∙ r .is-own; in-time = r .in-time }
+    call-back h k ak r = record {
+      j = r .j;
+      not-beyond = r .not-beyond;
+      own = r .own;
+      is-own = sym (mine-kept h (r .j) (at s (r .j) k (r .not-beyond) ak)) ∙ r .is-own;
+      in-time = r .in-time;
+    }
 
     call-on : (h : History) (k : ℕ) → Addressed m s k → Come s (call p c ∷ h) k → Come then h k
-    call-on h k ak r = record { j = r .j; not-beyond = r .not-beyond; own = r .own;
-      is-own = mine-kept h (r .j) (at s (r .j) k (r .not-beyond) ak) ∙ r .is-own; in-time = r .in-time }
+    call-on h k ak r = record {
+      j = r .j;
+      not-beyond = r .not-beyond;
+      own = r .own;
+      is-own = mine-kept h (r .j) (at s (r .j) k (r .not-beyond) ak) ∙ r .is-own;
+      in-time = r .in-time;
+    }
 
   called-there : (s : S) (p : ℕ) (c : Call) (k : ℕ) → Addressed m s k → Addressed m (m .called s p c) k
   called-there s p c k a = (a .0, subst (λ n. k < n) (sym (R .call-size s p c)) (a .1))
@@ -256,12 +309,12 @@ module _ {S : Type 0} (m : Meaning S) (R : Rules m) where
       let b : Addressed m s (r .j) = at s (r .j) k (r .not-beyond) a in
       subst (λ i. m .fact s i .held ≡ true) here
       (⊎-elim
-        (λ ready.
-          let own = sym (mine-free s [] (r .j) (free s (r .j) b ready)) ∙ r .is-own in
-          let counted = counted-some _ _ (counted-own s [] (r .j) b) own in
-          absurd (omega (arith, counted, r .in-time)))
-        (λ held. held .0)
-        (settled (r .j) b))
+      (λ ready.
+      let own = sym (mine-free s [] (r .j) (free s (r .j) b ready)) ∙ r .is-own in
+      let counted = counted-some _ _ (counted-own s [] (r .j) b) own in
+      absurd (omega (arith, counted, r .in-time)))
+      (λ held. held .0)
+      (settled (r .j) b))
   gone (tick level ∷ h) s settled none k a r =
       gone h (m .ticked s level) (settles s level settled) none k (there s level k a) (come-on s level h k settled a r)
   gone (call p c ∷ h) s settled none k a r =
@@ -274,14 +327,24 @@ module _ {S : Type 0} (m : Meaning S) (R : Rules m) where
   reached-come : (s : S) (h : History) (k : ℕ) → AllReady m s → Addressed m s k → Come s h k → Reached m s h k
   reached-come s h k ready a r =
       let b = at s (r .j) k (r .not-beyond) a in
-      record { j = r .j; not-beyond = r .not-beyond; own = r .own;
-        is-own = sym (mine-free s h (r .j) (free s (r .j) b (ready (r .j) b))) ∙ r .is-own; in-time = r .in-time }
+      record {
+        j = r .j;
+        not-beyond = r .not-beyond;
+        own = r .own;
+        is-own = sym (mine-free s h (r .j) (free s (r .j) b (ready (r .j) b))) ∙ r .is-own;
+        in-time = r .in-time;
+      }
 
   come-reached : (s : S) (h : History) (k : ℕ) → AllReady m s → Addressed m s k → Reached m s h k → Come s h k
   come-reached s h k ready a r =
       let b = at s (r .j) k (r .not-beyond) a in
-      record { j = r .j; not-beyond = r .not-beyond; own = r .own;
-        is-own = mine-free s h (r .j) (free s (r .j) b (ready (r .j) b)) ∙ r .is-own; in-time = r .in-time }
+      record {
+        j = r .j;
+        not-beyond = r .not-beyond;
+        own = r .own;
+        is-own = mine-free s h (r .j) (free s (r .j) b (ready (r .j) b)) ∙ r .is-own;
+        in-time = r .in-time;
+      }
 
   played-size : (h : History) (s : S) → m .size (play m s h) ≡ m .size s
   played-size [] s = refl
@@ -290,7 +353,9 @@ module _ {S : Type 0} (m : Meaning S) (R : Rules m) where
 
   pub law : Law m
   law = record {
-    falls = λ s h ready none k a.
-      (λ held. reached-come s h k ready a (come h s (all-ready s ready) none k a held),
-       λ r. gone h s (all-ready s ready) none k a (come-reached s h k ready a r));
-    rests = λ s h k a. R .sound (play m s h) k (subst (λ n. k < n) (sym (played-size h s)) a) .held-rests }
+    falls = λ s h ready none k a. (
+      λ held. reached-come s h k ready a (come h s (all-ready s ready) none k a held),
+      λ r. gone h s (all-ready s ready) none k a (come-reached s h k ready a r),
+    );
+    rests = λ s h k a. R .sound (play m s h) k (subst (λ n. k < n) (sym (played-size h s)) a) .held-rests;
+  }

@@ -105,9 +105,9 @@ module _ {S : Type 0} (m : Meaning S) (R : Rules m) where
   settled-from s (suc n) k e j lo hi =
       let both = split (settled (m .fact s k)) e in
       ⊎-elim
-        (λ (after : k < j). settled-from s n (k + 1) (both .1) j (omega arith) (omega arith))
-        (λ (here : j ≤ k). let same : k ≡ j = omega arith in subst (λ i. settled (m .fact s i) ≡ true) same (both .0))
-        (cases-lt k j)
+      (λ (after : k < j). settled-from s n (k + 1) (both .1) j (omega arith) (omega arith))
+      (λ (here : j ≤ k). let same : k ≡ j = omega arith in subst (λ i. settled (m .fact s i) ≡ true) same (both .0))
+      (cases-lt k j)
     where
       split : (b : Bool) → cond b (unsettled-from m s (k + 1) n) (Some k) ≡ None → (b ≡ true) × (unsettled-from m s (k + 1) n ≡ None)
       split true e = (refl, e)
@@ -119,9 +119,10 @@ module _ {S : Type 0} (m : Meaning S) (R : Rules m) where
   from-settled s (suc n) k h = cond-true _ _ _ (h k (omega arith) (omega arith)) ∙ from-settled s n (k + 1) (λ j lo hi. h j (omega arith) (omega arith))
 
   settled-all : (s : S) → (unsettled m s ≡ None) ↔ AllSettled m s
-  settled-all s =
-      (λ e k a. settled-from s (min 16 (m .size s)) 0 e k (omega arith) (omega (arith, a .0, a .1)),
-       λ all. from-settled s (min 16 (m .size s)) 0 (λ j lo hi. all j (omega (arith, hi), omega (arith, hi))))
+  settled-all s = (
+    λ e k a. settled-from s (min 16 (m .size s)) 0 e k (omega arith) (omega (arith, a .0, a .1)),
+    λ all. from-settled s (min 16 (m .size s)) 0 (λ j lo hi. all j (omega (arith, hi), omega (arith, hi))),
+  )
 
   pub foretold-next : (s : S) (level : Bool) (k : ℕ) → foretold m s level (k + 1) ≡ earlier (waiting (m .fact s (k + 1)) false) (one-later (foretold m s level k))
   unfolding foretold
@@ -141,13 +142,13 @@ module _ {S : Type 0} (m : Meaning S) (R : Rules m) where
   stop-called : (s : S) (p : ℕ) (c : Call) (k : ℕ) → p < m .size s → k < m .size s → sets-wire c ≡ false → m .fact (m .called s p c) k .stop ≡ m .fact s k .stop
   stop-called s p c k hp hk e =
       ⊎-elim
-        (λ (here : k ≡ p). subst (λ x. m .fact (m .called s p c) x .stop ≡ m .fact s x .stop) (sym here)
-          (⊎-elim
-            (λ ok. does-not-stop c _ _ _ _ e (R .call-here s p c hp ok))
-            (λ bad. ap (λ t. m .fact t p .stop) (R .refused s p c bad))
-            (cases-bool (isOk (m .answer s p c)))))
-        (λ other. ap (λ (f : Facts). f .stop) (R .call-elsewhere s p c k hp hk other))
-        (cases-eq k p)
+      (λ (here : k ≡ p). subst (λ x. m .fact (m .called s p c) x .stop ≡ m .fact s x .stop) (sym here)
+      (⊎-elim
+      (λ ok. does-not-stop c _ _ _ _ e (R .call-here s p c hp ok))
+      (λ bad. ap (λ t. m .fact t p .stop) (R .refused s p c bad))
+      (cases-bool (isOk (m .answer s p c)))))
+      (λ other. ap (λ (f : Facts). f .stop) (R .call-elsewhere s p c k hp hk other))
+      (cases-eq k p)
 
   steady-stop : (level : Bool) (h : History) (s : S) (j : ℕ) → Steady level h → NoGuard m s h → j < m .size s → first-stop m s h j ≡ cond (m .fact s j .stop) (tick-one h) None
   steady-stop level [] s j e none a = sym (cond-same (m .fact s j .stop))
@@ -181,9 +182,11 @@ module _ {S : Type 0} (m : Meaning S) (R : Rules m) where
       twice : (t : Option ℕ) → earlier t t ≡ t
       twice None = refl
       twice (Some n) = ap Some (omega arith)
+
       alone : (t : Option ℕ) → earlier t None ≡ t
       alone None = refl
       alone (Some n) = refl
+
       both : (stop level : Bool) (t : Option ℕ) → earlier (cond stop t None) (cond level None t) ≡ cond (stop || not level) t None
       both true true t = alone t
       both true false t = twice t
@@ -206,14 +209,17 @@ module _ {S : Type 0} (m : Meaning S) (R : Rules m) where
         alone : (t : ℕ) (o : Option ℕ) → By (earlier o None) t → By o t
         alone t None b = b
         alone t (Some n) b = b
+
         either : (b : Bool) (due one : Option ℕ) → 0 < t → By (earlier due (cond b one None)) t → By (cond b (Some 1) due) t
         either true due one p by = omega arith
         either false due one p by = alone t due by
+
         own : By (own-tick m s h j) t → By (cond (m .fact s j .stop || low-there j level) (Some 1) (m .fact s j .due)) t
         own by =
             let at-one = by-some _ t by in
             let some = counted-some _ _ (counted-own m R s h j a) (at-one .1) in
             either (m .fact s j .stop || low-there j level) (m .fact s j .due) (tick-one h) (omega (arith, some, at-one .2)) (subst (λ o. By o t) (own-steady j (a .1)) by)
+
         go : (b : Bool) → By (cond b (Some 0) (own-tick m s h j)) t → By (cond b (Some 0) (cond (m .fact s j .stop || low-there j level) (Some 1) (m .fact s j .due))) t
         go true by = by
         go false by = own by
@@ -224,6 +230,7 @@ module _ {S : Type 0} (m : Meaning S) (R : Rules m) where
         either : (b : Bool) (due : Option ℕ) → By (cond b (Some 1) due) t → By (earlier due (cond b (tick-one h) None)) t
         either true due by = by-right due (tick-one h) t (some-by (tick-one h) 1 t (one-by h t (omega arith) h≤) (omega arith))
         either false due by = by-left due None t by
+
         go : (b : Bool) → By (cond b (Some 0) (cond (m .fact s j .stop || low-there j level) (Some 1) (m .fact s j .due))) t → By (cond b (Some 0) (own-tick m s h j)) t
         go true by = by
         go false by = subst (λ o. By o t) (sym (own-steady j (a .1))) (either (m .fact s j .stop || low-there j level) (m .fact s j .due) by)
@@ -243,13 +250,13 @@ module _ {S : Type 0} (m : Meaning S) (R : Rules m) where
       record { j = 0; not-beyond = omega arith; own = w .0; is-own = w .1; in-time = omega (arith, w .2) }
   soon s level (suc k) t by =
       ⊎-elim
-        (λ mine. let w = by-some (waits s level (suc k)) t mine in
-          record { j = suc k; not-beyond = omega arith; own = w .0; is-own = w .1; in-time = omega (arith, w .2) })
-        (λ passed.
-          let b = by-later (foretold m s level k) t passed in
-          let r = soon s level k (t - 1) (b .1) in
-          record { j = r .j; not-beyond = omega (arith, r .not-beyond); own = r .own; is-own = r .is-own; in-time = omega (arith, r .in-time, r .not-beyond, b .0) })
-        (by-earlier (waits s level (suc k)) (one-later (foretold m s level k)) t by)
+      (λ mine. let w = by-some (waits s level (suc k)) t mine in
+      record { j = suc k; not-beyond = omega arith; own = w .0; is-own = w .1; in-time = omega (arith, w .2) })
+      (λ passed.
+      let b = by-later (foretold m s level k) t passed in
+      let r = soon s level k (t - 1) (b .1) in
+      record { j = r .j; not-beyond = omega (arith, r .not-beyond); own = r .own; is-own = r .is-own; in-time = omega (arith, r .in-time, r .not-beyond, b .0) })
+      (by-earlier (waits s level (suc k)) (one-later (foretold m s level k)) t by)
 
   by-soon : (s : S) (level : Bool) (k t : ℕ) → Soon s level k t → By (foretold m s level k) t
   unfolding foretold
@@ -258,15 +265,15 @@ module _ {S : Type 0} (m : Meaning S) (R : Rules m) where
       some-by (waits s level 0) (r .own) t (sym (ap (waits s level) first) ∙ r .is-own) (omega (arith, r .in-time))
   by-soon s level (suc k) t r =
       ⊎-elim
-        (λ (before : r .j < suc k).
-          by-right (waits s level (suc k)) (one-later (foretold m s level k)) t
-          (later-by (foretold m s level k) t (omega (arith, r .in-time, before))
-            (by-soon s level k (t - 1) (record { j = r .j; not-beyond = omega arith; own = r .own; is-own = r .is-own; in-time = omega (arith, r .in-time, before) }))))
-        (λ (last : suc k ≤ r .j).
-          let here : r .j ≡ suc k = omega (arith, r .not-beyond, last) in
-          by-left (waits s level (suc k)) (one-later (foretold m s level k)) t
-          (some-by (waits s level (suc k)) (r .own) t (sym (ap (waits s level) here) ∙ r .is-own) (omega (arith, r .in-time))))
-        (cases-lt (r .j) (suc k))
+      (λ (before : r .j < suc k).
+      by-right (waits s level (suc k)) (one-later (foretold m s level k)) t
+      (later-by (foretold m s level k) t (omega (arith, r .in-time, before))
+      (by-soon s level k (t - 1) (record { j = r .j; not-beyond = omega arith; own = r .own; is-own = r .is-own; in-time = omega (arith, r .in-time, before) }))))
+      (λ (last : suc k ≤ r .j).
+      let here : r .j ≡ suc k = omega (arith, r .not-beyond, last) in
+      by-left (waits s level (suc k)) (one-later (foretold m s level k)) t
+      (some-by (waits s level (suc k)) (r .own) t (sym (ap (waits s level) here) ∙ r .is-own) (omega (arith, r .in-time))))
+      (cases-lt (r .j) (suc k))
 
   standing : (f : Facts) → settled f ≡ true → (f .ready ≡ true) ⊎ ((f .held ≡ true) × (f .passes ≡ true))
   standing f e = ⊎-elim inl (λ both. inr (and-parts (f .held) (f .passes) both)) (or-cases (f .ready) _ e)
@@ -276,15 +283,17 @@ module _ {S : Type 0} (m : Meaning S) (R : Rules m) where
     ready-settles = λ ready k a. or-left _ _ (ready k a);
     all-settled = settled-all s;
     falls = λ all h steady none k a.
-      let stands : (j : ℕ) → Addressed m s j → Standing m R s j = λ j aj. standing (m .fact s j) (all j aj) in
-      let spot : (j : ℕ) → j ≤ k → Addressed m s j = λ j le. (omega (arith, a .0), omega (arith, a .1)) in
-      (λ held.
-        let r = come m R h s stands none k a held in
-        let w = by-some _ _ (waits-mine level h s steady none (r .j) (ticks h - (k - r .j)) (spot (r .j) (r .not-beyond)) (omega arith)
+        let stands : (j : ℕ) → Addressed m s j → Standing m R s j = λ j aj. standing (m .fact s j) (all j aj) in
+        let spot : (j : ℕ) → j ≤ k → Addressed m s j = λ j le. (omega (arith, a .0), omega (arith, a .1)) in (
+          λ held.
+              let r = come m R h s stands none k a held in
+              let w = by-some _ _ (waits-mine level h s steady none (r .j) (ticks h - (k - r .j)) (spot (r .j) (r .not-beyond)) (omega arith)
               (some-by _ (r .own) _ (r .is-own) (omega (arith, r .in-time)))) in
-        by-soon s level k (ticks h) (record { j = r .j; not-beyond = r .not-beyond; own = w .0; is-own = w .1; in-time = omega (arith, w .2, r .in-time) }),
-       λ by.
-        let r = soon s level k (ticks h) by in
-        let o = by-some _ _ (mine-waits level h s steady none (r .j) (ticks h - (k - r .j)) (spot (r .j) (r .not-beyond)) (omega arith)
+              by-soon s level k (ticks h) (record { j = r .j; not-beyond = r .not-beyond; own = w .0; is-own = w .1; in-time = omega (arith, w .2, r .in-time) }),
+          λ by.
+              let r = soon s level k (ticks h) by in
+              let o = by-some _ _ (mine-waits level h s steady none (r .j) (ticks h - (k - r .j)) (spot (r .j) (r .not-beyond)) (omega arith)
               (some-by _ (r .own) _ (r .is-own) (omega (arith, r .in-time)))) in
-        gone m R h s stands none k a (record { j = r .j; not-beyond = r .not-beyond; own = o .0; is-own = o .1; in-time = omega (arith, o .2, r .in-time) })) }
+              gone m R h s stands none k a (record { j = r .j; not-beyond = r .not-beyond; own = o .0; is-own = o .1; in-time = omega (arith, o .2, r .in-time) }),
+        );
+  }

@@ -19,13 +19,14 @@ kept-same old new e = record {
   passes = ap (λ (f : Facts). f .passes) e;
   line = ap (λ (f : Facts). f .line) e;
   ready = ap (λ (f : Facts). f .ready) e;
-  due = ap (λ (f : Facts). f .due) e }
+  due = ap (λ (f : Facts). f .due) e;
+}
 
 kept-stop : (old new : Facts) (b level : Bool) → new ≡ cond b (with-stop old level) old → Kept old new
 kept-stop old new b level e =
     subst (Kept old) (sym e) (cond-both b (with-stop old level) old (Kept old)
-      (λ _. record { held = refl; passes = refl; line = refl; ready = refl; due = refl })
-      (λ _. kept-same old old refl))
+    (λ _. record { held = refl; passes = refl; line = refl; ready = refl; due = refl })
+    (λ _. kept-same old old refl))
 
 -- an accepted call that is no guard call keeps all but the stop, rest and pending of its place
 does-keep : (c : Call) (wire : ℕ) (old new : Facts) → Does c false wire old new → Kept old new
@@ -43,10 +44,10 @@ module _ {S : Type 0} (m : Meaning S) (R : Rules m) where
   pub call-keeps : (s : S) (p : ℕ) (c : Call) (k : ℕ) → p < m .size s → k < m .size s → m .guards s p c ≡ false → Kept (m .fact s k) (m .fact (m .called s p c) k)
   call-keeps s p c k hp hk free =
       ⊎-elim
-        (λ (here : k ≡ p). subst (λ x. Kept (m .fact s x) (m .fact (m .called s p c) x)) (sym here)
-          (⊎-elim
-            (λ ok. does-keep c (m .stop-wire s p) _ _ (subst (λ g. Does c g (m .stop-wire s p) (m .fact s p) (m .fact (m .called s p c) p)) free (R .call-here s p c hp ok)))
-            (λ bad. kept-same _ _ (ap (λ t. m .fact t p) (R .refused s p c bad)))
-            (cases-bool (isOk (m .answer s p c)))))
-        (λ other. kept-same _ _ (R .call-elsewhere s p c k hp hk other))
-        (cases-eq k p)
+      (λ (here : k ≡ p). subst (λ x. Kept (m .fact s x) (m .fact (m .called s p c) x)) (sym here)
+      (⊎-elim
+      (λ ok. does-keep c (m .stop-wire s p) _ _ (subst (λ g. Does c g (m .stop-wire s p) (m .fact s p) (m .fact (m .called s p c) p)) free (R .call-here s p c hp ok)))
+      (λ bad. kept-same _ _ (ap (λ t. m .fact t p) (R .refused s p c bad)))
+      (cases-bool (isOk (m .answer s p c)))))
+      (λ other. kept-same _ _ (R .call-elsewhere s p c k hp hk other))
+      (cases-eq k p)

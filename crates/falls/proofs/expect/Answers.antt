@@ -21,8 +21,9 @@ loop-before-again g c =
     let m = g .S·Station .meaning in
     let own = c .waiting-own .ensures .value ∙ ap (λ f. waiting f false) (c .facts-in-loop-before .ensures) in
     let passed = c .one-later .ensures ∙ ap one-later (c .loop-before .inv .0) in
-    let made = c .earlier-falls .ensures ∙ ap (earlier (c .waiting-own .result)) (c .one-later .ensures) in
-    (c .earlier-falls .ensures ∙ ap (λ a. earlier a (c .one-later .result)) own ∙ ap (earlier _) passed
-      ∙ sym (foretold-next m (g .S·Station·met .rules) (c .args .chain .now) (c .args .level) (c .loop-before .before)),
-     subst (λ o. AtMost o (2 ^ 64 + (c .loop-before .before + 1))) (sym made)
-      (most-more (c .waiting-own .result) (c .loop-before .falls) (c .loop-before .before) (c .waiting-own .ensures .bound) (c .loop-before .inv .1)))
+    let made = c .earlier-falls .ensures ∙ ap (earlier (c .waiting-own .result)) (c .one-later .ensures) in (
+      c .earlier-falls .ensures ∙ ap (λ a. earlier a (c .one-later .result)) own ∙ ap (earlier _) passed
+          ∙ sym (foretold-next m (g .S·Station·met .rules) (c .args .chain .now) (c .args .level) (c .loop-before .before)),
+      subst (λ o. AtMost o (2 ^ 64 + (c .loop-before .before + 1))) (sym made)
+          (most-more (c .waiting-own .result) (c .loop-before .falls) (c .loop-before .before) (c .waiting-own .ensures .bound) (c .loop-before .inv .1)),
+    )
