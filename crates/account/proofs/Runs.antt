@@ -1,7 +1,7 @@
 -- A watched run, tick by tick: it leaves the bench where an unwatched one does.
-use mathlib.Core.Path.{_≡_, refl, sym, ap, _∙_}
-use mathlib.Core.Bool.{Bool, cond}
-use Prim.Native.Nat.{ℕ, zero, suc, _+_, _-_, _<_}
+use mathlib.Core.Path.{_≡_, sym, ap, _∙_}
+use mathlib.Core.Bool.{Bool}
+use Prim.Native.Nat.{ℕ, suc, _+_, _-_, _<_}
 use native.Mathlib.Omega.{arith}
 use Rattle.station.specs.Meaning.{Meaning}
 use Rattle.account.specs.Watches.{View, tick-view, run-view}

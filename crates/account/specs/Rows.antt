@@ -6,13 +6,10 @@ use Rattle.std.specs.declared.option.Option.the-variants.{None, Some}
 use Rattle.std.specs.declared.result.Result.{Result}
 use Rattle.std.specs.declared.result.Result.the-variants.{Ok, Err}
 use Rattle.bench.specs.declared.refusal.Refusal.{Refusal}
-use Rattle.station.specs.Rules.{due-now as is-due}
+use Rattle.station.specs.Rules.{due-now}
 use Rattle.station.specs.declared.facts.Facts.{Facts}
 use Rattle.account.specs.declared.row.Rest.{Rest}
 use Rattle.account.specs.declared.row.Row.{Row}
-
-abbrev pub due-now : Option ℕ → Bool
-due-now due = is-due due
 
 -- the first row of a place: the line is taken to have been high
 abbrev pub begun-row : Facts → Row
@@ -20,7 +17,7 @@ begun-row facts = record { facts = facts; heard = true; rest = cond (facts .held
 
 -- what a place could see of why it comes to rest at a tick
 abbrev pub caused : Row → ℕ → Option Bool → Rest
-caused row tick (Some level) = record { tick = tick; due = is-due (row .facts .due); stop = row .facts .stop; line = row .facts .passes && (row .heard && not level) }
+caused row tick (Some level) = record { tick = tick; due = due-now (row .facts .due); stop = row .facts .stop; line = row .facts .passes && (row .heard && not level) }
 caused row tick None = record { tick = tick; due = false; stop = false; line = false }
 
 abbrev or-else : Option Bool → Bool → Bool

@@ -1,5 +1,6 @@
 ghost use mathlib.Core.Path.{_≡_};
-ghost use Rattle.account.specs.Rows.{begun-row, due-now, caused, noted, seen, passed-on};
+ghost use Rattle.station.specs.Rules.{due-now};
+ghost use Rattle.account.specs.Rows.{begun-row, caused, noted, seen, passed-on};
 use bench::refusal::Refusal;
 use station::facts::Facts;
 

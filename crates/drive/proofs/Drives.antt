@@ -1,12 +1,11 @@
 -- Two drives in one state are one drive, and a drive keeps the rules of a station.
 use mathlib.Core.Path.{_≡_, refl, sym, ap, subst, _∙_}
-use mathlib.Core.Bool.{Bool, true, false, not, cond, _&&_, _||_, Bool-set}
+use mathlib.Core.Bool.{Bool, true, false, cond, Bool-set}
 use mathlib.Core.HLevel.{isProp→PathP}
-use Prim.Native.Nat.{ℕ, zero, suc, _+_, _-_, _<_, _≤_}
+use Prim.Native.Nat.{ℕ, zero, suc, _-_, _<_}
 use native.Mathlib.Omega.{arith}
 use lib.Dec.{eqb, ltb}
 use lib.IntN.{ℤ, pos, negsuc}
-use borrow.Author.Needs.{needs}
 use Rattle.std.proofs.shelf.Tests.{cond-both, true≢false, eqb-true}
 use Rattle.std.specs.Results.{isOk}
 use Rattle.std.specs.declared.result.Result.{Result}
@@ -17,7 +16,6 @@ use Rattle.station.specs.declared.call.Call.the-variants.{Read, Write, Wire, Vo
 use Rattle.station.specs.declared.facts.Facts.{Facts}
 use Rattle.station.specs.declared.refusal.Refusal.{Refusal}
 use Rattle.station.specs.declared.refusal.Refusal.the-variants.{NoSuch, NotAllowed}
-use Rattle.station.specs.Meaning.{Meaning}
 use Rattle.station.specs.Rules.{Rules, Sound, Ticks, Touches, Does, heard, with-stop as with-stop-fact}
 use Rattle.drive.specs.declared.motor.Drive.{Drive}
 use Rattle.drive.specs.declared.state.State.{State}
@@ -27,7 +25,7 @@ use Rattle.drive.specs.Drives.{drive, settled, became, called, answered, chang
 use Rattle.drive.specs.Quiet.{quiet}
 use Rattle.drive.specs.Rest.{Rest}
 use Rattle.drive.specs.Registers.{numbered, flag, word}
-use Rattle.drive.specs.States.{seen, still, after, with-setpoint, with-listen, with-stop, cleared, written, wired}
+use Rattle.drive.specs.States.{seen, still, after, with-setpoint, with-listen, with-stop, cleared, written}
 
 pub same-drive : (d e : Drive) → d .state ≡ e .state → d ≡ e
 same-drive d e p = λ i. record { state = p i; rests = isProp→PathP (λ j. quiet (p j) ≡ true) (λ j. Bool-set (quiet (p j)) true) (d .rests) (e .rests) i }

@@ -2,19 +2,18 @@
 -- passes: the law is proved from every such state, where a place that is held has the own tick 0.
 use mathlib.Core.Path.{_≡_, refl, sym, ap, subst, _∙_}
 use mathlib.Core.Bool.{Bool, true, false, not, cond, _||_}
-use mathlib.Core.List.{List, [], _∷_}
-use mathlib.Core.Logic.{_↔_, _⊎_, inl, inr, ⊎-elim}
+use mathlib.Core.List.{[], _∷_}
+use mathlib.Core.Logic.{_⊎_, inl, inr, ⊎-elim}
 use Prim.Native.Nat.{ℕ, zero, suc, _+_, _-_, _<_, _≤_}
 use native.Mathlib.Omega.{arith}
 use Rattle.std.proofs.shelf.Tests.{cases-bool, cases-lt, cond-true, cond-false, or-right, or-cases, or-parts, true≢false}
 use Rattle.std.specs.declared.option.Option.{Option}
-use Rattle.std.specs.declared.option.Option.the-variants.{None, Some}
+use Rattle.std.specs.declared.option.Option.the-variants.{Some}
 use Rattle.station.specs.Meaning.{Meaning}
 use Rattle.station.specs.Rules.{Rules, Ticks, Kept, heard, falls, due-now, sooner}
 use Rattle.station.specs.declared.call.Call.{Call}
-use Rattle.station.specs.declared.facts.Facts.{Facts}
-use Rattle.falls.specs.Histories.{Step, tick, call, History, play, ticks, NoGuard, earlier, one-later, own-tick}
-use Rattle.falls.specs.Law.{Addressed, AllReady, Reached, Falls, Rests, Law}
+use Rattle.falls.specs.Histories.{tick, call, History, play, ticks, NoGuard, earlier, one-later, own-tick}
+use Rattle.falls.specs.Law.{Addressed, AllReady, Reached, Law}
 use Rattle.falls.proofs.Ticks.{Counted, counted-some, counted-due, counted-earlier, earlier-later, first-earlier, earlier-first, later-some, due-later, due-one, outer, low-there, counted-outer, own-is, outer-now, outer-later}
 use Rattle.falls.proofs.Steps.{call-keeps}
 

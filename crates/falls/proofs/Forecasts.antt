@@ -1,7 +1,7 @@
 -- What is foretold is what the law says of histories in which nothing more happens from outside.
 use mathlib.Core.Path.{_≡_, refl, sym, ap, subst, _∙_}
-use mathlib.Core.Bool.{Bool, true, false, not, cond, _&&_, _||_}
-use mathlib.Core.List.{List, [], _∷_}
+use mathlib.Core.Bool.{Bool, true, false, not, cond, _||_}
+use mathlib.Core.List.{[], _∷_}
 use mathlib.Core.Logic.{_↔_, _⊎_, inl, inr, ⊎-elim}
 use Prim.Native.Nat.{ℕ, zero, suc, min, _+_, _-_, _<_, _≤_, _^_}
 use native.Mathlib.Omega.{arith}
@@ -17,10 +17,10 @@ use Rattle.station.specs.declared.call.Call.the-variants.{Read, Write, Wire, Vo
 use Rattle.station.specs.declared.facts.Facts.{Facts}
 use Rattle.falls.specs.Bounds.{AtMost}
 use Rattle.falls.specs.Forecasts.{sets-wire, Steady, settled, AllSettled, waiting, foretold, unsettled-from, unsettled, By, Foretells}
-use Rattle.falls.specs.Histories.{Step, tick, call, History, play, ticks, NoGuard, earlier, one-later, first-stop, first-low, own-tick}
-use Rattle.falls.specs.Law.{Addressed, AllReady}
+use Rattle.falls.specs.Histories.{tick, call, History, ticks, NoGuard, earlier, one-later, first-stop, first-low, own-tick}
+use Rattle.falls.specs.Law.{Addressed}
 use Rattle.falls.proofs.Falls.{Standing, mine, come, gone, counted-own}
-use Rattle.falls.proofs.Ticks.{Counted, counted-some, outer, low-there, own-is}
+use Rattle.falls.proofs.Ticks.{counted-some, outer, low-there, own-is}
 
 -- ticks that have been reached
 by-some : (o : Option ℕ) (t : ℕ) → By o t → (n : ℕ) × (o ≡ Some n) × (n ≤ t)

@@ -1,14 +1,13 @@
 -- What one step does to what is known of a place.
-use mathlib.Core.Path.{_≡_, refl, sym, ap, subst, _∙_}
-use mathlib.Core.Bool.{Bool, true, false, not, cond, _||_}
-use mathlib.Core.Logic.{_⊎_, inl, inr, ⊎-elim}
-use Prim.Native.Nat.{ℕ, suc, _<_}
-use native.Mathlib.Omega.{arith}
+use mathlib.Core.Path.{_≡_, refl, sym, ap, subst}
+use mathlib.Core.Bool.{Bool, false, cond}
+use mathlib.Core.Logic.{_⊎_, ⊎-elim}
+use Prim.Native.Nat.{ℕ, _<_}
 use lib.Dec.{eqb, ltb}
-use Rattle.std.proofs.shelf.Tests.{cases-bool, cases-eq, cond-both, true≢false}
+use Rattle.std.proofs.shelf.Tests.{cases-bool, cases-eq, cond-both}
 use Rattle.std.specs.Results.{isOk}
 use Rattle.station.specs.Meaning.{Meaning}
-use Rattle.station.specs.Rules.{Rules, Kept, Touches, Does, with-stop}
+use Rattle.station.specs.Rules.{Rules, Kept, Does, with-stop}
 use Rattle.station.specs.declared.call.Call.{Call}
 use Rattle.station.specs.declared.call.Call.the-variants.{Read, Write, Wire, Volts, Acknowledge, Preload, Arm, Kick}
 use Rattle.station.specs.declared.facts.Facts.{Facts}

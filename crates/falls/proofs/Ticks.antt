@@ -1,8 +1,8 @@
 -- Ticks that there may be none of.
-use mathlib.Core.Path.{_≡_, refl, sym, ap, subst, _∙_}
+use mathlib.Core.Path.{_≡_, refl, ap, subst}
 use mathlib.Core.Bool.{Bool, true, false, not, cond, _||_}
-use mathlib.Core.List.{List, [], _∷_}
-use Prim.Native.Nat.{ℕ, zero, suc, min, _-_, _<_, _≤_}
+use mathlib.Core.List.{[], _∷_}
+use Prim.Native.Nat.{ℕ, zero, suc, _-_, _<_}
 use native.Mathlib.Omega.{arith}
 use lib.Dec.{eqb}
 use Rattle.std.proofs.shelf.Tests.{eqb-true, eqb-false}
@@ -10,7 +10,7 @@ use Rattle.std.specs.declared.option.Option.{Option}
 use Rattle.std.specs.declared.option.Option.the-variants.{None, Some}
 use Rattle.station.specs.Meaning.{Meaning}
 use Rattle.station.specs.Rules.{due-now, sooner}
-use Rattle.falls.specs.Histories.{Step, tick, call, History, earlier, one-later, first-stop, first-low, own-tick}
+use Rattle.falls.specs.Histories.{tick, call, History, earlier, one-later, first-stop, first-low, own-tick}
 
 -- it is no tick 0
 abbrev pub Counted : Option ℕ → Type 0

@@ -1,7 +1,7 @@
 -- What the law foretells where nothing more happens from outside.
 use mathlib.Core.Path.{_≡_}
 use mathlib.Core.Bool.{Bool, true, false, not, cond, _&&_, _||_}
-use mathlib.Core.List.{List, [], _∷_}
+use mathlib.Core.List.{[], _∷_}
 use mathlib.Core.Logic.{_↔_}
 use Prim.Native.Nat.{ℕ, zero, suc, _+_, min, _≤_}
 use Rattle.std.specs.declared.option.Option.{Option}
@@ -12,7 +12,7 @@ use Rattle.station.specs.declared.call.Call.the-variants.{Read, Write, Wire, Vo
 use Rattle.station.specs.declared.facts.Facts.{Facts}
 use Rattle.falls.specs.declared.forecast.Forecast.{Forecast}
 use Rattle.falls.specs.declared.forecast.Forecast.the-variants.{Unsettled, Never, At}
-use Rattle.falls.specs.Histories.{Step, tick, call, History, play, ticks, NoGuard, earlier, one-later}
+use Rattle.falls.specs.Histories.{tick, call, History, play, ticks, NoGuard, earlier, one-later}
 use Rattle.falls.specs.Law.{Addressed, AllReady}
 
 -- a history in which every tick is told one level, and no wire is set

@@ -1,6 +1,6 @@
 -- Histories: what happens to a chain, step by step, and when a place falls of its own accord.
 use mathlib.Core.Path.{_≡_}
-use mathlib.Core.Bool.{Bool, true, false, cond}
+use mathlib.Core.Bool.{Bool, false, cond}
 use mathlib.Core.List.{List, [], _∷_}
 use Prim.Native.Nat.{ℕ, zero, suc, min, _<_}
 use Rattle.std.specs.declared.option.Option.{Option}

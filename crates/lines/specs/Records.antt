@@ -1,6 +1,6 @@
 -- The record of an outcome: two digits of a number, eight of a word, and the end of the line.
 use mathlib.Core.List.{List, [], _∷_, _++_}
-use Prim.Native.Nat.{ℕ, _+_, _*_, _/_, _%_, _^_}
+use Prim.Native.Nat.{ℕ, _+_, _*_, _/_, _%_}
 use Rattle.lines.specs.declared.outcome.Outcome.{Outcome}
 use Rattle.lines.specs.declared.outcome.Outcome.the-variants.{Value, Refused}
 use Rattle.lines.specs.Digits.{letter}

@@ -1,6 +1,6 @@
 ghost use mathlib.Core.Path.{_≡_};
 ghost use Prim.Native.Nat.{_+_, _<_};
-ghost use lib.ListN.{length, getD};
+ghost use lib.ListN.{length};
 ghost use Rattle.lines.specs.Digits.{digit, nibble, byte-at, word-at, letter};
 
 // The value of a digit, 0 to 9 or A to F.

@@ -1,7 +1,7 @@
 -- The pair of two members keeps the rules where both members keep theirs.
 use mathlib.Core.Path.{_≡_, refl, sym, ap, subst, _∙_}
 use mathlib.Core.Bool.{Bool, true, false, cond}
-use mathlib.Core.Logic.{_⊎_, inl, inr, ⊎-elim}
+use mathlib.Core.Logic.{_⊎_, ⊎-elim}
 use Prim.Native.Nat.{ℕ, zero, suc, _+_, _-_, _<_, _≤_}
 use native.Mathlib.Omega.{arith}
 use lib.Dec.{ltb}
@@ -9,7 +9,7 @@ use Rattle.std.proofs.shelf.Tests.{cases-lt, lt-ltb, le-ltb, cond-true, cond-fa
 use Rattle.std.specs.Results.{isOk}
 use Rattle.std.specs.declared.result.Result.the-variants.{Ok}
 use Rattle.station.specs.declared.call.Call.{Call}
-use Rattle.station.specs.declared.call.Call.the-variants.{Acknowledge, Volts}
+use Rattle.station.specs.declared.call.Call.the-variants.{Volts}
 use Rattle.station.specs.declared.facts.Facts.{Facts}
 use Rattle.station.specs.declared.joined.Joined.{Joined}
 use Rattle.station.specs.Meaning.{Meaning}

@@ -1,6 +1,6 @@
 -- Two members one behind the other.
 use mathlib.Core.Bool.{cond}
-use Prim.Native.Nat.{ℕ, _+_, _-_}
+use Prim.Native.Nat.{_+_, _-_}
 use lib.Dec.{ltb}
 use Rattle.station.specs.declared.joined.Joined.{Joined}
 use Rattle.station.specs.Meaning.{Meaning}

@@ -1,8 +1,7 @@
-use mathlib.Core.Path.{_≡_}
 use lib.ListN.{length}
 use Rattle.std.specs.Of.Vec.{vec-items}
 use Rattle.lines.specs.Cuts.{lines}
-use Rattle.account.specs.Watches.{view, begun}
+use Rattle.account.specs.Watches.{view}
 use Rattle.account.proofs.Told.{Sofar}
 use Rattle.account.proofs.account_of.Given as given
 

@@ -1,6 +1,5 @@
 use mathlib.Core.Path.{sym, ap, _∙_}
 use native.Mathlib.Omega.{arith}
-use Prim.Native.Nat.{min, _<_}
 use Rattle.falls.specs.Forecasts.{settled}
 use Rattle.falls.proofs.Forecasts.{unsettled-here, unsettled-later, unsettled-none}
 use Rattle.falls.proofs.first_unsettled.Needs as need

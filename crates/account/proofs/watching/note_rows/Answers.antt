@@ -1,6 +1,6 @@
-use mathlib.Core.Path.{refl, sym, ap, _∙_}
+use mathlib.Core.Path.{refl}
 use native.Mathlib.Omega.{arith}
-use Prim.Native.Nat.{_≤_, _<_}
+use Prim.Native.Nat.{_<_}
 use lib.ListN.{length, length-set}
 use Rattle.account.proofs.Rows.{rows-more, rows-all}
 use Rattle.account.proofs.watching.note_rows.Needs as need

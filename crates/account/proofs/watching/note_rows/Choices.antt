@@ -2,7 +2,6 @@ use mathlib.Core.Path.{_≡_}
 use mathlib.Core.List.{_++_}
 use Prim.Native.Nat.{_≤_}
 use lib.ListN.{length, take, drop}
-use Rattle.std.specs.Of.Vec.{vec-items}
 use Rattle.account.specs.Watches.{rows-after}
 use Rattle.account.proofs.watching.note_rows.Given as given
 
