@@ -1,0 +1,9 @@
+use mathlib.Core.Path.{_≡_}
+use mathlib.Core.List.{_++_}
+use lib.ListN.{length, take, drop}
+use Rattle.encoder.specs.Each.{each, with-command}
+use Rattle.encoder.proofs.eight.command_all.Given as given
+
+-- the encoders that are done, then what is to come of those that are left
+abbrev pub Inv-loop-n : given.InvT-loop-n
+Inv-loop-n l = (length (l .encoders) ≡ 8) × (each (with-command (l .value)) 0 (l .entry .encoders) ≡ take (l .n) (l .encoders) ++ each (with-command (l .value)) (l .n) (drop (l .n) (l .encoders)))
