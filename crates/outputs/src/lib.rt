@@ -1,0 +1,3 @@
+// The eight analog outputs of a card.
+pub mod mode;
+pub mod channels;
