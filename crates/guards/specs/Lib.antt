@@ -1,0 +1,4 @@
+pub mod Watchdogs
+pub mod Senses
+pub mod Fuses
+pub mod Ports
