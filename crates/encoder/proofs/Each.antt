@@ -30,7 +30,7 @@ module _ (f : ℕ → Encoder → Encoder) where
 -- the flags of eight encoders, whatever stands for an encoder that is not there
 pub gathered-eight : (f : Encoder → Bool) (es : List Encoder) (d0 d1 d2 d3 d4 d5 d6 d7 : Encoder) → length es ≡ 8 →
     gathered f es ≡ weight (f (getD es 0 d0)) + 2 * weight (f (getD es 1 d1)) + 4 * weight (f (getD es 2 d2)) + 8 * weight (f (getD es 3 d3))
-      + 16 * (weight (f (getD es 4 d4)) + 2 * weight (f (getD es 5 d5)) + 4 * weight (f (getD es 6 d6)) + 8 * weight (f (getD es 7 d7)))
+    + 16 * (weight (f (getD es 4 d4)) + 2 * weight (f (getD es 5 d5)) + 4 * weight (f (getD es 6 d6)) + 8 * weight (f (getD es 7 d7)))
 gathered-eight f [] d0 d1 d2 d3 d4 d5 d6 d7 n = absurd (omega arith)
 gathered-eight f (x0 ∷ []) d0 d1 d2 d3 d4 d5 d6 d7 n = absurd (omega arith)
 gathered-eight f (x0 ∷ x1 ∷ []) d0 d1 d2 d3 d4 d5 d6 d7 n = absurd (omega arith)

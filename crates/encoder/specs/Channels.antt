@@ -12,13 +12,27 @@ use Rattle.encoder.specs.Turns.{turn}
 
 abbrev pub fresh : Encoder
 fresh = record {
-  wires = record { a = false; b = false }; sample = record { a = false; b = false }; enabled = false;
-  count = count-of 0; preset = count-of 0; latch = count-of 0; wrapped = false; lost = false }
+  wires = record { a = false; b = false };
+  sample = record { a = false; b = false };
+  enabled = false;
+  count = count-of 0;
+  preset = count-of 0;
+  latch = count-of 0;
+  wrapped = false;
+  lost = false;
+}
 
 abbrev with-count : Encoder → Count → Bool → Encoder
 with-count e n wraps = record {
-  wires = e .wires; sample = e .sample; enabled = e .enabled;
-  count = n; preset = e .preset; latch = e .latch; wrapped = e .wrapped || wraps; lost = e .lost }
+  wires = e .wires;
+  sample = e .sample;
+  enabled = e .enabled;
+  count = n;
+  preset = e .preset;
+  latch = e .latch;
+  wrapped = e .wrapped || wraps;
+  lost = e .lost;
+}
 
 -- up from FFFFFF gives 0 and a carry, down from 0 gives FFFFFF and a borrow; a lost turn counts nothing
 abbrev pub counted : Encoder → Turn → Encoder
@@ -26,13 +40,27 @@ counted e Still = e
 counted e Up = with-count e (count-of (e .count .value + 1)) (eqb (e .count .value) 0xffffff)
 counted e Down = with-count e (count-of (e .count .value + 0xffffff)) (eqb (e .count .value) 0)
 counted e Lost = record {
-  wires = e .wires; sample = e .sample; enabled = e .enabled;
-  count = e .count; preset = e .preset; latch = e .latch; wrapped = e .wrapped; lost = true }
+  wires = e .wires;
+  sample = e .sample;
+  enabled = e .enabled;
+  count = e .count;
+  preset = e .preset;
+  latch = e .latch;
+  wrapped = e .wrapped;
+  lost = true;
+}
 
 abbrev sampled : Encoder → Encoder
 sampled e = record {
-  wires = e .wires; sample = e .wires; enabled = e .enabled;
-  count = e .count; preset = e .preset; latch = e .latch; wrapped = e .wrapped; lost = e .lost }
+  wires = e .wires;
+  sample = e .wires;
+  enabled = e .enabled;
+  count = e .count;
+  preset = e .preset;
+  latch = e .latch;
+  wrapped = e .wrapped;
+  lost = e .lost;
+}
 
 -- a tick: the sample is taken also while the encoder is off, when nothing counts
 abbrev pub stepped : Encoder → Encoder
@@ -40,8 +68,15 @@ stepped e = counted (sampled e) (cond (e .enabled) (turn (e .sample) (e .wires))
 
 abbrev pub with-latch : Encoder → Bool → Encoder
 with-latch e latch = cond latch (record {
-  wires = e .wires; sample = e .sample; enabled = e .enabled;
-  count = e .count; preset = e .preset; latch = e .count; wrapped = e .wrapped; lost = e .lost }) e
+  wires = e .wires;
+  sample = e .sample;
+  enabled = e .enabled;
+  count = e .count;
+  preset = e .preset;
+  latch = e .count;
+  wrapped = e .wrapped;
+  lost = e .lost;
+}) e
 
 abbrev pub with-load : Encoder → Bool → Encoder
 with-load e load = cond load (with-count e (e .preset) false) e

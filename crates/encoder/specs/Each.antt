@@ -22,15 +22,28 @@ with-command value n e = commanded e (bit value n) (bit value (8 + n)) (bit valu
 -- bit 4n: encoder n counts
 abbrev pub with-enable : ℕ → ℕ → Encoder → Encoder
 with-enable value n e = record {
-  wires = e .wires; sample = e .sample; enabled = bit value (4 * n);
-  count = e .count; preset = e .preset; latch = e .latch; wrapped = e .wrapped; lost = e .lost }
+  wires = e .wires;
+  sample = e .sample;
+  enabled = bit value (4 * n);
+  count = e .count;
+  preset = e .preset;
+  latch = e .latch;
+  wrapped = e .wrapped;
+  lost = e .lost;
+}
 
 -- bit n clears the carry or borrow of encoder n, 8 + n its error
 abbrev pub with-cleared : ℕ → ℕ → Encoder → Encoder
 with-cleared value n e = record {
-  wires = e .wires; sample = e .sample; enabled = e .enabled;
-  count = e .count; preset = e .preset; latch = e .latch;
-  wrapped = e .wrapped && not (bit value n); lost = e .lost && not (bit value (8 + n)) }
+  wires = e .wires;
+  sample = e .sample;
+  enabled = e .enabled;
+  count = e .count;
+  preset = e .preset;
+  latch = e .latch;
+  wrapped = e .wrapped && not (bit value n);
+  lost = e .lost && not (bit value (8 + n));
+}
 
 -- one flag of each of eight encoders, that of encoder 0 in bit 0
 abbrev pub gathered : (Encoder → Bool) → List Encoder → ℕ

@@ -83,7 +83,13 @@ pub fn wraps(encoders: &[Encoder; 8]) -> u32
     ensures { λ r. ⌜ r ≡ gathered (λ e. e .wrapped) (now (encoders .entry)) ⌝ }
 {
     let [a, b, c, d, e, f, g, h] = *encoders;
-    let low = weight(a.wrapped) + 2 * weight(b.wrapped) + 4 * weight(c.wrapped) + 8 * weight(d.wrapped);
-    let high = weight(e.wrapped) + 2 * weight(f.wrapped) + 4 * weight(g.wrapped) + 8 * weight(h.wrapped);
+    let low = weight(a.wrapped)
+        + 2 * weight(b.wrapped)
+        + 4 * weight(c.wrapped)
+        + 8 * weight(d.wrapped);
+    let high = weight(e.wrapped)
+        + 2 * weight(f.wrapped)
+        + 4 * weight(g.wrapped)
+        + 8 * weight(h.wrapped);
     low + 16 * high
 }

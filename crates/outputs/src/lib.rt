@@ -1,3 +1,3 @@
 // The eight analog outputs of a card.
-pub mod mode;
 pub mod channels;
+pub mod mode;

@@ -71,8 +71,14 @@ pub fn modes_of(value: u32) -> [Mode; 8]
 pub fn bits_of(modes: [Mode; 8]) -> u32
     ensures { λ r. ⌜ r ≡ bits-of modes ⌝ }
 {
-    let low = modes[0].bits() + 4 * modes[1].bits() + 0x10 * modes[2].bits() + 0x40 * modes[3].bits();
-    let high = modes[4].bits() + 4 * modes[5].bits() + 0x10 * modes[6].bits() + 0x40 * modes[7].bits();
+    let low = modes[0].bits()
+        + 4 * modes[1].bits()
+        + 0x10 * modes[2].bits()
+        + 0x40 * modes[3].bits();
+    let high = modes[4].bits()
+        + 4 * modes[5].bits()
+        + 0x10 * modes[6].bits()
+        + 0x40 * modes[7].bits();
     low + 0x100 * high
 }
 
@@ -87,6 +93,9 @@ pub fn modes_allowed(value: u32) -> bool
     ensures { λ r. ⌜ r ≡ modes-allowed value ⌝ }
 {
     let low = known(value) & known(value / 4) & known(value / 0x10) & known(value / 0x40);
-    let high = known(value / 0x100) & known(value / 0x400) & known(value / 0x1000) & known(value / 0x4000);
+    let high = known(value / 0x100)
+        & known(value / 0x400)
+        & known(value / 0x1000)
+        & known(value / 0x4000);
     (value < 0x1_0000) & low & high
 }

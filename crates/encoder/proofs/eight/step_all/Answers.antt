@@ -1,4 +1,3 @@
-
 use native.Mathlib.Omega.{arith}
 use Prim.Native.Nat.{_<_}
 use lib.ListN.{length, length-set}
@@ -8,9 +7,10 @@ use Rattle.encoder.proofs.eight.step_all.Needs as need
 
 pub loop-n-again : need.loop-n-again
 loop-n-again c =
-    let within : c .loop-n .n < length (c .loop-n .encoders) = omega arith in
-    (simp length-set (c .loop-n .inv .0),
-     each-more with-step _ (c .loop-n .encoders) (c .loop-n .n) (c .index-encoders-n .result) (c .stepped .result) within (c .loop-n .inv .1) (c .stepped .ensures))
+    let within : c .loop-n .n < length (c .loop-n .encoders) = omega arith in (
+      simp length-set (c .loop-n .inv .0),
+      each-more with-step _ (c .loop-n .encoders) (c .loop-n .n) (c .index-encoders-n .result) (c .stepped .result) within (c .loop-n .inv .1) (c .stepped .ensures),
+    )
 
 pub returns : need.returns
 returns c = each-all with-step _ _ _ (omega arith) (c .loop-n .inv .1)
