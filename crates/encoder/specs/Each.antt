@@ -45,7 +45,11 @@ with-cleared value n e = record {
   lost = e .lost && not (bit value (8 + n));
 }
 
--- one flag of each of eight encoders, that of encoder 0 in bit 0
+-- one flag of each encoder, each place worth so many times the one before
+abbrev pub gathered-by : ℕ → (Encoder → Bool) → List Encoder → ℕ
+gathered-by base f [] = 0
+gathered-by base f (e ∷ es) = weight (f e) + base * gathered-by base f es
+
+-- the flag of encoder n in bit n
 abbrev pub gathered : (Encoder → Bool) → List Encoder → ℕ
-gathered f [] = 0
-gathered f (e ∷ es) = weight (f e) + 2 * gathered f es
+gathered f es = gathered-by 2 f es

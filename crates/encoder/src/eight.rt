@@ -1,6 +1,6 @@
 ghost use mathlib.Core.Path.{_≡_};
 ghost use Prim.Native.Nat.{_<_};
-ghost use Rattle.encoder.specs.Each.{each, with-step, with-command, with-enable, with-cleared, gathered};
+ghost use Rattle.encoder.specs.Each.{each, with-step, with-command, with-enable, with-cleared, gathered, gathered-by};
 use crate::channel::Encoder;
 use bits::words::bit;
 use bits::words::weight;
@@ -80,16 +80,32 @@ pub fn clear_all(encoders: &mut [Encoder; 8], value: u32)
 
 // The carries and borrows of all encoders, that of encoder 0 in bit 0.
 pub fn wraps(encoders: &[Encoder; 8]) -> u32
-    ensures { λ r. ⌜ r ≡ gathered (λ e. e .wrapped) (now (encoders .entry)) ⌝ }
+    ensures value { λ r. ⌜ r ≡ gathered (λ e. e .wrapped) (now (encoders .entry)) ⌝ }
+    ensures bound { λ r. ⌜ r < 256 ⌝ }
 {
     let [a, b, c, d, e, f, g, h] = *encoders;
-    let low = weight(a.wrapped)
-        + 2 * weight(b.wrapped)
-        + 4 * weight(c.wrapped)
-        + 8 * weight(d.wrapped);
-    let high = weight(e.wrapped)
-        + 2 * weight(f.wrapped)
-        + 4 * weight(g.wrapped)
-        + 8 * weight(h.wrapped);
+    let low = weight(a.wrapped) + 2 * weight(b.wrapped) + 4 * weight(c.wrapped) + 8 * weight(d.wrapped);
+    let high = weight(e.wrapped) + 2 * weight(f.wrapped) + 4 * weight(g.wrapped) + 8 * weight(h.wrapped);
     low + 16 * high
+}
+
+// The errors of all encoders, that of encoder 0 in bit 0.
+pub fn losses(encoders: &[Encoder; 8]) -> u32
+    ensures value { λ r. ⌜ r ≡ gathered (λ e. e .lost) (now (encoders .entry)) ⌝ }
+    ensures bound { λ r. ⌜ r < 256 ⌝ }
+{
+    let [a, b, c, d, e, f, g, h] = *encoders;
+    let low = weight(a.lost) + 2 * weight(b.lost) + 4 * weight(c.lost) + 8 * weight(d.lost);
+    let high = weight(e.lost) + 2 * weight(f.lost) + 4 * weight(g.lost) + 8 * weight(h.lost);
+    low + 16 * high
+}
+
+// Which encoders count, bit 4n for encoder n.
+pub fn enables(encoders: &[Encoder; 8]) -> u32
+    ensures { λ r. ⌜ r ≡ gathered-by 16 (λ e. e .enabled) (now (encoders .entry)) ⌝ }
+{
+    let [a, b, c, d, e, f, g, h] = *encoders;
+    let low = weight(a.enabled) + 0x10 * weight(b.enabled) + 0x100 * weight(c.enabled) + 0x1000 * weight(d.enabled);
+    let high = weight(e.enabled) + 0x10 * weight(f.enabled) + 0x100 * weight(g.enabled) + 0x1000 * weight(h.enabled);
+    low + 0x1_0000 * high
 }

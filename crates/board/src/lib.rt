@@ -1,0 +1,3 @@
+// The parts of a Q8 card on one board: its registers, its wires and its tick, without the hold.
+pub mod parts;
+pub mod register;
