@@ -1,3 +1,4 @@
 // The parts of a Q8 card on one board: its registers, its wires and its tick, without the hold.
 pub mod parts;
 pub mod register;
+pub mod writes;

@@ -1,5 +1,5 @@
 ghost use mathlib.Core.Path.{_≡_};
-ghost use Rattle.encoder.specs.Channels.{fresh, counted, stepped, with-latch, with-load, with-clear, commanded};
+ghost use Rattle.encoder.specs.Channels.{fresh, preset-to, wired, counted, stepped, with-latch, with-load, with-clear, commanded};
 use crate::turn::Levels;
 use crate::turn::Turn;
 use crate::turn::turned;
@@ -74,6 +74,18 @@ impl Encoder {
             ..self
         };
         sampled.counted(turn)
+    }
+
+    pub fn with_preset(self, preset: Count) -> Encoder
+        ensures { λ r. ⌜ r ≡ preset-to self preset ⌝ }
+    {
+        Encoder { preset, ..self }
+    }
+
+    pub fn with_wires(self, wires: Levels) -> Encoder
+        ensures { λ r. ⌜ r ≡ wired self wires ⌝ }
+    {
+        Encoder { wires, ..self }
     }
 
     fn with_latch(self, latch: bool) -> Encoder
