@@ -17,9 +17,20 @@ use Rattle.board.specs.declared.parts.Board.{Board}
 
 abbrev pub fresh : Board
 fresh = record {
-  enabled = 0; watchdog = fresh-watchdog; sense = fresh-sense; fuse = fresh-fuse; port = fresh-port; outputs = silent;
-  chip0 = fresh-chip; chip1 = fresh-chip; select0 = 0; select1 = 0;
-  analog0 = replicate 4 0; analog1 = replicate 4 0; encoders = replicate 8 fresh-encoder }
+  enabled = 0;
+  watchdog = fresh-watchdog;
+  sense = fresh-sense;
+  fuse = fresh-fuse;
+  port = fresh-port;
+  outputs = silent;
+  chip0 = fresh-chip;
+  chip1 = fresh-chip;
+  select0 = 0;
+  select1 = 0;
+  analog0 = replicate 4 0;
+  analog1 = replicate 4 0;
+  encoders = replicate 8 fresh-encoder;
+}
 
 -- a cause to hold the card: WD with ACT, EXT with EXT_ACT, or FUSE
 abbrev pub held : Board → Bool
@@ -28,6 +39,17 @@ held b = (b .watchdog .rose && b .watchdog .active) || ((b .sense .fell && b .se
 -- one tick, in its order; the parts do not touch each other
 abbrev pub ticked : Board → Bool → Board
 ticked b level = record {
-  enabled = b .enabled; sense = heard (b .sense) level; fuse = sampled (b .fuse); watchdog = ran (b .watchdog);
-  chip0 = on (b .chip0) Tick; chip1 = on (b .chip1) Tick; encoders = each with-step 0 (b .encoders);
-  port = b .port; outputs = b .outputs; select0 = b .select0; select1 = b .select1; analog0 = b .analog0; analog1 = b .analog1 }
+  enabled = b .enabled;
+  sense = heard (b .sense) level;
+  fuse = sampled (b .fuse);
+  watchdog = ran (b .watchdog);
+  chip0 = on (b .chip0) Tick;
+  chip1 = on (b .chip1) Tick;
+  encoders = each with-step 0 (b .encoders);
+  port = b .port;
+  outputs = b .outputs;
+  select0 = b .select0;
+  select1 = b .select1;
+  analog0 = b .analog0;
+  analog1 = b .analog1;
+}

@@ -1,3 +1,5 @@
 pub mod Registers
 pub mod Boards
 pub mod Writes
+pub mod Wires
+pub mod Reads

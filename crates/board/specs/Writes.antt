@@ -26,29 +26,107 @@ use Rattle.board.specs.declared.register.Register.the-variants.{InterruptEnabl
 
 abbrev pub with-enabled : Board → ℕ → Board
 with-enabled b value = record {
-  enabled = value; watchdog = b .watchdog; sense = b .sense; fuse = b .fuse; port = b .port; outputs = b .outputs; chip0 = b .chip0; chip1 = b .chip1; select0 = b .select0; select1 = b .select1; analog0 = b .analog0; analog1 = b .analog1; encoders = b .encoders }
+  enabled = value;
+  watchdog = b .watchdog;
+  sense = b .sense;
+  fuse = b .fuse;
+  port = b .port;
+  outputs = b .outputs;
+  chip0 = b .chip0;
+  chip1 = b .chip1;
+  select0 = b .select0;
+  select1 = b .select1;
+  analog0 = b .analog0;
+  analog1 = b .analog1;
+  encoders = b .encoders;
+}
 
 abbrev pub with-watchdog : Board → Watchdog → Board
 with-watchdog b w = record {
-  enabled = b .enabled; watchdog = w; sense = b .sense; fuse = b .fuse; port = b .port; outputs = b .outputs; chip0 = b .chip0; chip1 = b .chip1; select0 = b .select0; select1 = b .select1; analog0 = b .analog0; analog1 = b .analog1; encoders = b .encoders }
+  enabled = b .enabled;
+  watchdog = w;
+  sense = b .sense;
+  fuse = b .fuse;
+  port = b .port;
+  outputs = b .outputs;
+  chip0 = b .chip0;
+  chip1 = b .chip1;
+  select0 = b .select0;
+  select1 = b .select1;
+  analog0 = b .analog0;
+  analog1 = b .analog1;
+  encoders = b .encoders;
+}
 
 abbrev pub with-port : Board → Port → Board
 with-port b p = record {
-  enabled = b .enabled; watchdog = b .watchdog; sense = b .sense; fuse = b .fuse; port = p; outputs = b .outputs; chip0 = b .chip0; chip1 = b .chip1; select0 = b .select0; select1 = b .select1; analog0 = b .analog0; analog1 = b .analog1; encoders = b .encoders }
+  enabled = b .enabled;
+  watchdog = b .watchdog;
+  sense = b .sense;
+  fuse = b .fuse;
+  port = p;
+  outputs = b .outputs;
+  chip0 = b .chip0;
+  chip1 = b .chip1;
+  select0 = b .select0;
+  select1 = b .select1;
+  analog0 = b .analog0;
+  analog1 = b .analog1;
+  encoders = b .encoders;
+}
 
 abbrev pub with-outputs : Board → Outputs → Board
 with-outputs b o = record {
-  enabled = b .enabled; watchdog = b .watchdog; sense = b .sense; fuse = b .fuse; port = b .port; outputs = o; chip0 = b .chip0; chip1 = b .chip1; select0 = b .select0; select1 = b .select1; analog0 = b .analog0; analog1 = b .analog1; encoders = b .encoders }
+  enabled = b .enabled;
+  watchdog = b .watchdog;
+  sense = b .sense;
+  fuse = b .fuse;
+  port = b .port;
+  outputs = o;
+  chip0 = b .chip0;
+  chip1 = b .chip1;
+  select0 = b .select0;
+  select1 = b .select1;
+  analog0 = b .analog0;
+  analog1 = b .analog1;
+  encoders = b .encoders;
+}
 
 abbrev pub with-encoders : Board → List Channel → Board
 with-encoders b es = record {
-  enabled = b .enabled; watchdog = b .watchdog; sense = b .sense; fuse = b .fuse; port = b .port; outputs = b .outputs; chip0 = b .chip0; chip1 = b .chip1; select0 = b .select0; select1 = b .select1; analog0 = b .analog0; analog1 = b .analog1; encoders = es }
+  enabled = b .enabled;
+  watchdog = b .watchdog;
+  sense = b .sense;
+  fuse = b .fuse;
+  port = b .port;
+  outputs = b .outputs;
+  chip0 = b .chip0;
+  chip1 = b .chip1;
+  select0 = b .select0;
+  select1 = b .select1;
+  analog0 = b .analog0;
+  analog1 = b .analog1;
+  encoders = es;
+}
 
 -- IST: a 1 clears; 0 to 7 carries and borrows, 8 to 15 errors, 16 and 17 an end, 18 and 19 all ends of a chip,
 -- 21 the watchdog, 22 the line, 23 the fuse
 abbrev pub status-cleared : Board → ℕ → Board
 status-cleared b value = record {
-  enabled = b .enabled; watchdog = cleared-rise (b .watchdog) (bit value 21); sense = cleared-fall (b .sense) (bit value 22); fuse = cleared-fuse (b .fuse) (bit value 23); port = b .port; outputs = b .outputs; chip0 = cleared (b .chip0) (bit value 16) (bit value 18); chip1 = cleared (b .chip1) (bit value 17) (bit value 19); select0 = b .select0; select1 = b .select1; analog0 = b .analog0; analog1 = b .analog1; encoders = each (with-cleared value) 0 (b .encoders) }
+  enabled = b .enabled;
+  watchdog = cleared-rise (b .watchdog) (bit value 21);
+  sense = cleared-fall (b .sense) (bit value 22);
+  fuse = cleared-fuse (b .fuse) (bit value 23);
+  port = b .port;
+  outputs = b .outputs;
+  chip0 = cleared (b .chip0) (bit value 16) (bit value 18);
+  chip1 = cleared (b .chip1) (bit value 17) (bit value 19);
+  select0 = b .select0;
+  select1 = b .select1;
+  analog0 = b .analog0;
+  analog1 = b .analog1;
+  encoders = each (with-cleared value) 0 (b .encoders);
+}
 
 abbrev pub started : Chip → Bool → ℕ → List ℕ → Chip
 started c start mask wires = cond start (on c (Start mask wires)) c
@@ -56,7 +134,20 @@ started c start mask wires = cond start (on c (Start mask wires)) c
 -- CTL: 0 EXT_ACT, 8 to 11 and 16 to 19 the selects, all stored before 6 and 7 start the chips
 abbrev pub controlled : Board → ℕ → Board
 controlled b value = record {
-  enabled = b .enabled; watchdog = b .watchdog; sense = with-active (b .sense) (bit value 0); fuse = b .fuse; port = b .port; outputs = b .outputs; chip0 = started (b .chip0) (bit value 6) (value / 0x100 % 16) (b .analog0); chip1 = started (b .chip1) (bit value 7) (value / 0x10000 % 16) (b .analog1); select0 = value / 0x100 % 16; select1 = value / 0x10000 % 16; analog0 = b .analog0; analog1 = b .analog1; encoders = b .encoders }
+  enabled = b .enabled;
+  watchdog = b .watchdog;
+  sense = with-active (b .sense) (bit value 0);
+  fuse = b .fuse;
+  port = b .port;
+  outputs = b .outputs;
+  chip0 = started (b .chip0) (bit value 6) (value / 0x100 % 16) (b .analog0);
+  chip1 = started (b .chip1) (bit value 7) (value / 0x10000 % 16) (b .analog1);
+  select0 = value / 0x100 % 16;
+  select1 = value / 0x10000 % 16;
+  analog0 = b .analog0;
+  analog1 = b .analog1;
+  encoders = b .encoders;
+}
 
 -- CCT: 8 EN, 12 LD, 14 ACT, 15 SEL
 abbrev pub guarded : Board → ℕ → Board

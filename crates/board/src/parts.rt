@@ -58,7 +58,9 @@ impl Board {
     pub fn held(&self) -> bool
         ensures { λ r. ⌜ r ≡ held (now (self .entry)) ⌝ }
     {
-        self.watchdog.rose & self.watchdog.active | self.sense.fell & self.sense.active | self.fuse.blown
+        self.watchdog.rose & self.watchdog.active
+            | self.sense.fell & self.sense.active
+            | self.fuse.blown
     }
 
     // One tick: line and fuse are sampled, then the watchdog, the chips and the encoders go on.

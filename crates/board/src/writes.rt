@@ -68,9 +68,12 @@ impl Board {
     pub fn guarded(self, value: u32) -> Board
         ensures { λ r. ⌜ r ≡ guarded self value ⌝ }
     {
-        let watchdog = self
-            .watchdog
-            .controlled(bit(value, 8), bit(value, 12), bit(value, 14), bit(value, 15));
+        let watchdog = self.watchdog.controlled(
+            bit(value, 8),
+            bit(value, 12),
+            bit(value, 14),
+            bit(value, 15),
+        );
         Board { watchdog, ..self }
     }
 

@@ -30,7 +30,7 @@ module _ (f : ℕ → Encoder → Encoder) where
 -- the flags of eight encoders, whatever stands for an encoder that is not there
 pub gathered-eight : (f : Encoder → Bool) (es : List Encoder) (d0 d1 d2 d3 d4 d5 d6 d7 : Encoder) → length es ≡ 8 →
     gathered f es ≡ weight (f (getD es 0 d0)) + 2 * weight (f (getD es 1 d1)) + 4 * weight (f (getD es 2 d2)) + 8 * weight (f (getD es 3 d3))
-      + 16 * (weight (f (getD es 4 d4)) + 2 * weight (f (getD es 5 d5)) + 4 * weight (f (getD es 6 d6)) + 8 * weight (f (getD es 7 d7)))
+    + 16 * (weight (f (getD es 4 d4)) + 2 * weight (f (getD es 5 d5)) + 4 * weight (f (getD es 6 d6)) + 8 * weight (f (getD es 7 d7)))
 gathered-eight f [] d0 d1 d2 d3 d4 d5 d6 d7 n = absurd (omega arith)
 gathered-eight f (x0 ∷ []) d0 d1 d2 d3 d4 d5 d6 d7 n = absurd (omega arith)
 gathered-eight f (x0 ∷ x1 ∷ []) d0 d1 d2 d3 d4 d5 d6 d7 n = absurd (omega arith)
@@ -44,7 +44,7 @@ gathered-eight f (x0 ∷ x1 ∷ x2 ∷ x3 ∷ x4 ∷ x5 ∷ x6 ∷ x7 ∷ x8 ∷
 
 pub gathered-sixteen : (f : Encoder → Bool) (es : List Encoder) (d0 d1 d2 d3 d4 d5 d6 d7 : Encoder) → length es ≡ 8 →
     gathered-by 16 f es ≡ weight (f (getD es 0 d0)) + 0x10 * weight (f (getD es 1 d1)) + 0x100 * weight (f (getD es 2 d2)) + 0x1000 * weight (f (getD es 3 d3))
-      + 0x10000 * (weight (f (getD es 4 d4)) + 0x10 * weight (f (getD es 5 d5)) + 0x100 * weight (f (getD es 6 d6)) + 0x1000 * weight (f (getD es 7 d7)))
+    + 0x10000 * (weight (f (getD es 4 d4)) + 0x10 * weight (f (getD es 5 d5)) + 0x100 * weight (f (getD es 6 d6)) + 0x1000 * weight (f (getD es 7 d7)))
 gathered-sixteen f [] d0 d1 d2 d3 d4 d5 d6 d7 n = absurd (omega arith)
 gathered-sixteen f (x0 ∷ []) d0 d1 d2 d3 d4 d5 d6 d7 n = absurd (omega arith)
 gathered-sixteen f (x0 ∷ x1 ∷ []) d0 d1 d2 d3 d4 d5 d6 d7 n = absurd (omega arith)

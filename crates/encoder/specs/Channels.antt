@@ -24,13 +24,27 @@ fresh = record {
 
 abbrev pub preset-to : Encoder → Count → Encoder
 preset-to e n = record {
-  wires = e .wires; sample = e .sample; enabled = e .enabled;
-  count = e .count; preset = n; latch = e .latch; wrapped = e .wrapped; lost = e .lost }
+  wires = e .wires;
+  sample = e .sample;
+  enabled = e .enabled;
+  count = e .count;
+  preset = n;
+  latch = e .latch;
+  wrapped = e .wrapped;
+  lost = e .lost;
+}
 
 abbrev pub wired : Encoder → Levels → Encoder
 wired e levels = record {
-  wires = levels; sample = e .sample; enabled = e .enabled;
-  count = e .count; preset = e .preset; latch = e .latch; wrapped = e .wrapped; lost = e .lost }
+  wires = levels;
+  sample = e .sample;
+  enabled = e .enabled;
+  count = e .count;
+  preset = e .preset;
+  latch = e .latch;
+  wrapped = e .wrapped;
+  lost = e .lost;
+}
 
 abbrev with-count : Encoder → Count → Bool → Encoder
 with-count e n wraps = record {

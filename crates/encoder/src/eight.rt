@@ -84,8 +84,14 @@ pub fn wraps(encoders: &[Encoder; 8]) -> u32
     ensures bound { λ r. ⌜ r < 256 ⌝ }
 {
     let [a, b, c, d, e, f, g, h] = *encoders;
-    let low = weight(a.wrapped) + 2 * weight(b.wrapped) + 4 * weight(c.wrapped) + 8 * weight(d.wrapped);
-    let high = weight(e.wrapped) + 2 * weight(f.wrapped) + 4 * weight(g.wrapped) + 8 * weight(h.wrapped);
+    let low = weight(a.wrapped)
+        + 2 * weight(b.wrapped)
+        + 4 * weight(c.wrapped)
+        + 8 * weight(d.wrapped);
+    let high = weight(e.wrapped)
+        + 2 * weight(f.wrapped)
+        + 4 * weight(g.wrapped)
+        + 8 * weight(h.wrapped);
     low + 16 * high
 }
 
@@ -105,7 +111,13 @@ pub fn enables(encoders: &[Encoder; 8]) -> u32
     ensures { λ r. ⌜ r ≡ gathered-by 16 (λ e. e .enabled) (now (encoders .entry)) ⌝ }
 {
     let [a, b, c, d, e, f, g, h] = *encoders;
-    let low = weight(a.enabled) + 0x10 * weight(b.enabled) + 0x100 * weight(c.enabled) + 0x1000 * weight(d.enabled);
-    let high = weight(e.enabled) + 0x10 * weight(f.enabled) + 0x100 * weight(g.enabled) + 0x1000 * weight(h.enabled);
+    let low = weight(a.enabled)
+        + 0x10 * weight(b.enabled)
+        + 0x100 * weight(c.enabled)
+        + 0x1000 * weight(d.enabled);
+    let high = weight(e.enabled)
+        + 0x10 * weight(f.enabled)
+        + 0x100 * weight(g.enabled)
+        + 0x1000 * weight(h.enabled);
     low + 0x1_0000 * high
 }
