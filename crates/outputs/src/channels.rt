@@ -1,6 +1,6 @@
 ghost use mathlib.Core.Path.{_≡_};
 ghost use Prim.Native.Nat.{_%_};
-ghost use Rattle.outputs.specs.Channels.{silent, updated, latched, volts};
+ghost use Rattle.outputs.specs.Channels.{silent, updated, latched, volts, zero, at-rest};
 use crate::mode::Mode;
 use bits::code::Code;
 
@@ -61,5 +61,21 @@ impl Outputs {
     {
         let n = (channel % 8) as usize;
         self.modes[n].steps(self.codes[n])
+    }
+
+    // Whether a channel puts out nothing.
+    fn is_still(self, channel: u8) -> bool
+        ensures { λ r. ⌜ r ≡ zero (volts self (channel % 8)) ⌝ }
+    {
+        self.volts(channel) == 0
+    }
+
+    // Whether all channels put out nothing.
+    pub fn at_rest(self) -> bool
+        ensures { λ r. ⌜ r ≡ at-rest self ⌝ }
+    {
+        let low = self.is_still(0) & self.is_still(1) & self.is_still(2) & self.is_still(3);
+        let high = self.is_still(4) & self.is_still(5) & self.is_still(6) & self.is_still(7);
+        low & high
     }
 }
