@@ -1,0 +1,4 @@
+use Rattle.card.proofs.calls.CardStation.the-impl.Needs as need
+
+pub rules-law : need.rules-law
+rules-law = ?
