@@ -1,1 +1,4 @@
 pub mod Same
+pub mod Bools
+pub mod Ticking
+pub mod Calling
