@@ -1,10 +1,7 @@
 -- All parts of a card, and one tick of them.
 use mathlib.Core.Bool.{Bool, _&&_, _||_}
-use mathlib.Core.List.{List}
-use Prim.Native.Nat.{ℕ}
 use lib.ListN.{replicate}
 use Rattle.converter.specs.Chips.{on, fresh as fresh-chip}
-use Rattle.converter.specs.declared.chip.Chip.{Chip}
 use Rattle.converter.specs.declared.chip.Event.the-variants.{Tick}
 use Rattle.encoder.specs.Channels.{fresh as fresh-encoder}
 use Rattle.encoder.specs.Each.{each, with-step}

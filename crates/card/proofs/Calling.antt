@@ -7,7 +7,7 @@ use lib.Bits.{bitAnd}
 use lib.Dec.{eqb, ltb}
 use lib.ListN.{getD, set}
 use mathlib.Core.List.{List, [], _∷_}
-use Rattle.std.proofs.shelf.Tests.{and-parts, or-parts, cond-true, cond-false, cond-both, ltb-true, eqb-true, true≢false}
+use Rattle.std.proofs.shelf.Tests.{or-parts, cond-false, cond-both, ltb-true, eqb-true, true≢false}
 use Rattle.std.proofs.shelf.Ways.{tells}
 use Rattle.std.specs.Results.{isOk}
 use Rattle.std.specs.declared.option.Option.{Option}
@@ -23,7 +23,7 @@ use Rattle.encoder.specs.declared.channel.Encoder.{Encoder as Channel}
 use Rattle.board.specs.Boards.{held}
 use Rattle.board.specs.Reads.{fetched, after-read, interrupts}
 use Rattle.board.specs.Registers.{numbered, allowed}
-use Rattle.board.specs.Wires.{wire-numbered, wired, with-fuse, with-analog, with-levels}
+use Rattle.board.specs.Wires.{with-fuse, with-analog, with-levels}
 use Rattle.board.specs.Writes.{written, status-cleared, with-port, with-watchdog}
 use Rattle.board.specs.declared.parts.Board.{Board}
 use Rattle.board.specs.declared.register.Register.{Register}
@@ -93,9 +93,10 @@ status-touches : (b : Board) (value : ℕ) → Touches (clears-cause value) (see
 status-touches b value = record {
   stop = refl;
   else-kept = λ none.
-    let one = or-parts (bit value 21) _ none in
-    let two = or-parts (bit value 22) _ (one .1) in
-    kept-parts b (status-cleared b value) (rise-stays (b .watchdog) _ (one .0)) (fall-stays (b .sense) _ (two .0)) (fuse-stays (b .fuse) _ (two .1)) }
+      let one = or-parts (bit value 21) _ none in
+      let two = or-parts (bit value 22) _ (one .1) in
+      kept-parts b (status-cleared b value) (rise-stays (b .watchdog) _ (one .0)) (fall-stays (b .sense) _ (two .0)) (fuse-stays (b .fuse) _ (two .1));
+}
 
 -- a watchdog that keeps its control bits and is not loaded stays as it is
 control-stays : (w : Watchdog) (enabled load active selected : Bool) → load ≡ false → enabled ≡ w .enabled → active ≡ w .active → selected ≡ w .selected → controlled w enabled load active selected ≡ w
@@ -117,20 +118,22 @@ written-touches b InterruptStatus value ok =
 written-touches b Control value ok = record {
   stop = refl;
   else-kept = λ none.
-    let same = same-flag (bit value 0) (b .sense .active) (sym (ap (λ g. g && cond (bit value 0) (not (b .sense .active)) (b .sense .active)) ok) ∙ none) in
-    kept-parts b (written b Control value) refl (ap (with-active (b .sense)) same) refl }
+      let same = same-flag (bit value 0) (b .sense .active) (sym (ap (λ g. g && cond (bit value 0) (not (b .sense .active)) (b .sense .active)) ok) ∙ none) in
+      kept-parts b (written b Control value) refl (ap (with-active (b .sense)) same) refl;
+}
 written-touches b Status value ok = plain _ b (written b Status value) refl refl refl
 written-touches b Preload value ok = record { stop = refl; else-kept = λ _. record { held = refl; passes = refl; line = refl; ready = refl; due = refl } }
 written-touches b WatchdogControl value ok = record {
   stop = refl;
   else-kept = λ none.
-    let w = b .watchdog in
-    let changes : Bool = bit value 12 || (cond (bit value 8) (not (w .enabled)) (w .enabled) || (cond (bit value 14) (not (w .active)) (w .active) || cond (bit value 15) (not (w .selected)) (w .selected))) in
-    let one = or-parts (bit value 12) _ (sym (ap (λ g. g && changes) ok) ∙ none) in
-    let two = or-parts (cond (bit value 8) (not (w .enabled)) (w .enabled)) _ (one .1) in
-    let three = or-parts (cond (bit value 14) (not (w .active)) (w .active)) _ (two .1) in
-    kept-parts b (written b WatchdogControl value)
-      (control-stays w _ _ _ _ (one .0) (same-flag (bit value 8) (w .enabled) (two .0)) (same-flag (bit value 14) (w .active) (three .0)) (same-flag (bit value 15) (w .selected) (three .1))) refl refl }
+      let w = b .watchdog in
+      let changes : Bool = bit value 12 || (cond (bit value 8) (not (w .enabled)) (w .enabled) || (cond (bit value 14) (not (w .active)) (w .active) || cond (bit value 15) (not (w .selected)) (w .selected))) in
+      let one = or-parts (bit value 12) _ (sym (ap (λ g. g && changes) ok) ∙ none) in
+      let two = or-parts (cond (bit value 8) (not (w .enabled)) (w .enabled)) _ (one .1) in
+      let three = or-parts (cond (bit value 14) (not (w .active)) (w .active)) _ (two .1) in
+      kept-parts b (written b WatchdogControl value)
+      (control-stays w _ _ _ _ (one .0) (same-flag (bit value 8) (w .enabled) (two .0)) (same-flag (bit value 14) (w .active) (three .0)) (same-flag (bit value 15) (w .selected) (three .1))) refl refl;
+}
 written-touches b Digital value ok = plain _ b (written b Digital value) refl refl refl
 written-touches b Direction value ok = plain _ b (written b Direction value) refl refl refl
 written-touches b Results value ok = plain _ b (written b Results value) refl refl refl
@@ -254,7 +257,7 @@ module _ (c : Card) (level : ℕ) where
   wire-there : (wire : ℕ) (p q r s : Bool) → ltb wire 8 ≡ p → eqb wire 8 ≡ q → ltb wire 0x11 ≡ r → eqb wire 0x12 ≡ s →
       isOk (after {B = Unit {0}} (λ _. tt) (wire-board (c .board) (cond p (Some (Analog wire)) (cond q (Some Digital-wire) (cond r (Some (Encoder-wire (wire - 9))) (cond s (Some Fuse-wire) None)))) level)) ≡ true →
       seen (became c (wire-board (c .board) (cond p (Some (Analog wire)) (cond q (Some Digital-wire) (cond r (Some (Encoder-wire (wire - 9))) (cond s (Some Fuse-wire) None)))) level) .board)
-        ≡ cond s (with-stop (seen (c .board)) (ltb 0 level)) (seen (c .board))
+      ≡ cond s (with-stop (seen (c .board)) (ltb 0 level)) (seen (c .board))
   unfolding stays
   wire-there wire true q r false ep eq er es ok = analog-stays wire ok
   wire-there wire true q r true ep eq er es ok = absurd (apart wire ep es)
@@ -322,4 +325,5 @@ card-rules = record {
   call-here = λ c p q h ok. card-here c q ok;
   refused = λ c p q bad. card-refused c q bad;
   acknowledged = λ c p bits. refl;
-  volts-look = λ c p channel. refl }
+  volts-look = λ c p channel. refl;
+}

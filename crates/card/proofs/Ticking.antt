@@ -1,13 +1,12 @@
 -- A card keeps the rules of a station: at any time, and in a tick.
 use mathlib.Core.Path.{_≡_, refl, sym, ap, _∙_}
 use mathlib.Core.Bool.{Bool, true, false, not, cond, _&&_, _||_}
-use mathlib.Core.Logic.{_⊎_, inl, inr, ⊎-elim}
+use mathlib.Core.Logic.{_⊎_, ⊎-elim}
 use Prim.Native.Nat.{ℕ, _+_, _-_}
 use native.Mathlib.Omega.{arith}
 use lib.Dec.{eqb}
-use Rattle.std.proofs.shelf.Tests.{and-parts, and-from, cases-bool, cond-true, cond-false, eqb-true, eqb-false, ne-eqb, or-parts, true≢false}
+use Rattle.std.proofs.shelf.Tests.{and-parts, and-from, cases-bool, cond-true, cond-false, eqb-false, ne-eqb, or-parts, true≢false}
 use Rattle.std.proofs.shelf.Ways.{tells}
-use Rattle.std.specs.declared.option.Option.{Option}
 use Rattle.std.specs.declared.option.Option.the-variants.{None, Some}
 use Rattle.board.specs.Boards.{held, ticked}
 use Rattle.board.specs.declared.parts.Board.{Board}
@@ -19,8 +18,8 @@ use Rattle.station.specs.Rules.{Sound, Ticks, due-now, sooner, falls}
 use Rattle.card.specs.declared.whole.Card.{Card}
 use Rattle.card.specs.Cards.{card, settled}
 use Rattle.card.specs.Facts.{line, passes, ready, rest, seen}
-use Rattle.card.specs.Quiet.{quiet, hold}
-use Rattle.card.proofs.Bools.{ready-by, armed-by, held-by, Stands, stands, fall-exactly, fall-else-ready, held-stays-by}
+use Rattle.card.specs.Quiet.{quiet}
+use Rattle.card.proofs.Bools.{ready-by, held-by, stands, fall-exactly, fall-else-ready, held-stays-by}
 
 -- a quiet board that is held is at rest
 pub quiet-rests : (b : Board) → quiet b ≡ true → held b ≡ true → rest b ≡ true
@@ -43,7 +42,8 @@ card-sound c =
       ready-free = λ r. free (passes b) (held b) (b .sense .high) _ r;
       due-from-one = due-counted (armed (b .watchdog)) (b .watchdog .count);
       held-rests = quiet-rests b (c .«held_rests»);
-      line-tells = selected-line (b .sense .active) (b .watchdog .selected) _ _ }
+      line-tells = selected-line (b .sense .active) (b .watchdog .selected) _ _;
+    }
   where
     free : (p h k w : Bool) → (p && not h && k && w) ≡ true → h ≡ false
     free p h k w e = grind arith
@@ -51,10 +51,10 @@ card-sound c =
 -- the watchdog after a tick, flag by flag: e where it is enabled, z where its count is 0
 abbrev ran-by : Bool → Bool → Watchdog → Watchdog
 ran-by e z w = cond e
-  (cond z
+    (cond z
     (record { count = w .preload; preload = w .preload; enabled = w .enabled; active = w .active; selected = w .selected; output = not (w .output); rose = w .rose || not (w .output) })
     (record { count = w .count - 1; preload = w .preload; enabled = w .enabled; active = w .active; selected = w .selected; output = w .output; rose = w .rose }))
-  w
+    w
 
 or-none : (a : Bool) → a ≡ (a || false)
 or-none true = refl
@@ -99,9 +99,10 @@ due-sooner w watch stays = ⊎-elim goes-down stays-off (cases-bool (armed w))
         let on = and-parts (w .enabled) _ (and-parts _ _ (and-parts _ _ a .0) .0) .0 in
         let some = eqb-false (w .count) 0 (sym (ap (λ x. x && eqb (w .count) 0) a) ∙ stays) in
         let down : ran w ≡ record { count = w .count - 1; preload = w .preload; enabled = w .enabled; active = w .active; selected = w .selected; output = w .output; rose = w .rose } =
-              cond-true _ _ _ on ∙ cond-false _ _ _ (ne-eqb (w .count) 0 some) in
+        cond-true _ _ _ on ∙ cond-false _ _ _ (ne-eqb (w .count) 0 some) in
         let same : w .count - 1 + 1 ≡ w .count + 1 - 1 = omega (arith, some) in
         ap due down ∙ cond-true _ _ _ a ∙ ap Some same ∙ sym (ap sooner (cond-true _ _ _ a))
+
     stays-off : armed w ≡ false → due (ran w) ≡ sooner (due w)
     stays-off a =
         let never = off (w .enabled && w .active) (sym (ap (λ x. not (w .enabled && w .active) || x) a) ∙ watch) in
@@ -150,8 +151,9 @@ module _ (c : Card) (level : Bool) where
     falls-exactly = λ r. held-after ∙ fall-exactly (w .rose) (w .active) (w .enabled) (w .selected) (w .output) ends (b .sense .high) (b .sense .fell) (b .sense .active) (b .fuse .blown) (b .fuse .wire) level r ∙ sym falls-flags;
     else-ready = λ r n. ready-after ∙ fall-else-ready (w .rose) (w .active) (w .enabled) (w .selected) (w .output) ends (b .sense .high) (b .sense .fell) (b .sense .active) (b .fuse .blown) (b .fuse .wire) level r (sym falls-flags ∙ n);
     else-sooner = λ r n.
-      let s = stands (w .rose) (w .active) (w .enabled) (w .selected) (w .output) (b .sense .high) (b .sense .fell) (b .sense .active) (b .fuse .blown) r in
-      due-sooner w (s .watch) (or-parts (armed w && ends) _ (sym falls-flags ∙ n) .0);
+        let s = stands (w .rose) (w .active) (w .enabled) (w .selected) (w .output) (b .sense .high) (b .sense .fell) (b .sense .active) (b .fuse .blown) r in
+        due-sooner w (s .watch) (or-parts (armed w && ends) _ (sym falls-flags ∙ n) .0);
     held-stays = λ h. held-after ∙ held-stays-by (w .rose) (w .active) (b .sense .fell) (b .sense .active) (b .fuse .blown) _ _ (b .fuse .wire) h;
     passes-stays = ap (λ x. b .sense .active && x) (by-selected (w .enabled) ends w);
-    stop-stays = refl }
+    stop-stays = refl;
+  }

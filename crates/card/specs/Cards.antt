@@ -114,7 +114,7 @@ guarding b (Some Control) value = isOk (allowed Control value) && differs (bit v
 guarding b (Some Status) value = false
 guarding b (Some Preload) value = false
 guarding b (Some WatchdogControl) value = isOk (allowed WatchdogControl value) &&
-  (bit value 12 || (differs (bit value 8) (b .watchdog .enabled) || (differs (bit value 14) (b .watchdog .active) || differs (bit value 15) (b .watchdog .selected))))
+    (bit value 12 || (differs (bit value 8) (b .watchdog .enabled) || (differs (bit value 14) (b .watchdog .active) || differs (bit value 15) (b .watchdog .selected))))
 guarding b (Some Digital) value = false
 guarding b (Some Direction) value = false
 guarding b (Some Results) value = false
@@ -144,4 +144,5 @@ card = record {
   ticked = λ c level. settled (ticked (c .board) level);
   called = λ c p q. called c q;
   answer = λ c p q. answered (c .board) q;
-  guards = λ c p q. guards (c .board) q }
+  guards = λ c p q. guards (c .board) q;
+}

@@ -26,5 +26,12 @@ rest b = at-rest (b .outputs) && eqb (b .port .direction) 0
 
 abbrev pub seen : Board → Facts
 seen b = record {
-  held = held b; rest = rest b; passes = passes b; line = line b; ready = ready b; due = due (b .watchdog);
-  stop = b .fuse .wire; pending = bitAnd (b .enabled) (interrupts b) }
+  held = held b;
+  rest = rest b;
+  passes = passes b;
+  line = line b;
+  ready = ready b;
+  due = due (b .watchdog);
+  stop = b .fuse .wire;
+  pending = bitAnd (b .enabled) (interrupts b);
+}

@@ -1,8 +1,8 @@
 -- The table of turns, entry by entry.
 use mathlib.Core.Path.{_≡_, refl}
-use mathlib.Core.Bool.{Bool, true, false, cond}
+use mathlib.Core.Bool.{Bool, true, false}
 use mathlib.Core.List.{List, [], _∷_}
-use Prim.Native.Nat.{ℕ, _+_, _*_}
+use Prim.Native.Nat.{_+_, _*_}
 use lib.ListN.{getD}
 use Rattle.encoder.specs.declared.turn.Turn.{Turn}
 use Rattle.encoder.specs.declared.turn.Turn.the-variants.{Still, Up, Down, Lost}

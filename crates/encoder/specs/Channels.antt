@@ -1,6 +1,6 @@
 -- One encoder.
 use mathlib.Core.Bool.{Bool, true, false, cond, _||_}
-use Prim.Native.Nat.{ℕ, _+_}
+use Prim.Native.Nat.{_+_}
 use lib.Dec.{eqb}
 use Rattle.bits.specs.Counts.{count-of}
 use Rattle.bits.specs.declared.count.Count.{Count}

@@ -1,6 +1,6 @@
 -- Quadrature.
 use mathlib.Core.Bool.{Bool, true, false, cond}
-use Prim.Native.Nat.{ℕ, zero, suc, _+_, _-_, _%_}
+use Prim.Native.Nat.{ℕ, _+_, _-_, _%_}
 use lib.Dec.{eqb}
 use Rattle.encoder.specs.declared.turn.Levels.{Levels}
 use Rattle.encoder.specs.declared.turn.Turn.{Turn}
