@@ -1,5 +1,5 @@
 -- What is noted of a place. `hears` is the level that it hears in a tick, and none at a call.
-use mathlib.Core.Bool.{Bool, true, false, not, cond, _&&_}
+use mathlib.Core.Bool.{Bool, true, false, not, cond, _&&_, _||_}
 use Prim.Native.Nat.{ℕ}
 use Rattle.std.specs.declared.option.Option.{Option}
 use Rattle.std.specs.declared.option.Option.the-variants.{None, Some}
@@ -15,9 +15,15 @@ use Rattle.account.specs.declared.row.Row.{Row}
 abbrev pub begun-row : Facts → Row
 begun-row facts = record { facts = facts; heard = true; rest = cond (facts .held) (Some (record { tick = 0; due = false; stop = false; line = false })) None }
 
--- what a place could see of why it comes to rest at a tick
+-- what a place could see of why it comes to rest at a tick: its due, its stop, and a fall of the line if it
+-- passes or sees nothing else
 abbrev pub caused : Row → ℕ → Option Bool → Rest
-caused row tick (Some level) = record { tick = tick; due = due-now (row .facts .due); stop = row .facts .stop; line = row .facts .passes && (row .heard && not level) }
+caused row tick (Some level) = record {
+  tick = tick;
+  due = due-now (row .facts .due);
+  stop = row .facts .stop;
+  line = (row .heard && not level) && (row .facts .passes || not (due-now (row .facts .due) || row .facts .stop));
+}
 caused row tick None = record { tick = tick; due = false; stop = false; line = false }
 
 abbrev or-else : Option Bool → Bool → Bool

@@ -13,7 +13,7 @@ pub struct Rest {
     pub due: bool,
     // Its stop stood.
     pub stop: bool,
-    // The line before it fell.
+    // The line before it fell, and it passes or saw no other cause.
     pub line: bool,
 }
 
@@ -60,12 +60,17 @@ impl Row {
         ensures { λ r. ⌜ r ≡ caused self tick hears ⌝ }
     {
         match hears {
-            Some(level) => Rest {
-                tick,
-                due: due_now(self.facts.due),
-                stop: self.facts.stop,
-                line: self.facts.passes & self.heard & !level,
-            },
+            Some(level) => {
+                let due = due_now(self.facts.due);
+                let stop = self.facts.stop;
+                let alone = !(due | stop);
+                Rest {
+                    tick,
+                    due,
+                    stop,
+                    line: self.heard & !level & (self.facts.passes | alone),
+                }
+            }
             None => Rest {
                 tick,
                 due: false,

@@ -1,5 +1,7 @@
-// Replays a trace from standard input on three drives, and writes a record for each line.
+// Replays a trace from standard input on a card, a drive and a card, and writes a record for each line.
 use bench::Bench;
+use card::calls::CardStation;
+use card::whole::Card;
 use drive::calls::DriveStation;
 use drive::motor::Drive;
 use replay::replay;
@@ -14,10 +16,10 @@ fn main(rt: LibcRuntime) -> io::Result<()> {
     let mut trace = Vec::new(heap);
     rt.stdin().read_to_end(&mut trace)?;
     let chain = Joined {
-        first: Drive::new(),
+        first: Card::new(),
         second: Joined {
             first: Drive::new(),
-            second: Drive::new(),
+            second: Card::new(),
         },
     };
     let done = replay(heap, Bench::new(chain), &trace)?;
