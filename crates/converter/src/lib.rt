@@ -1,4 +1,6 @@
 // A converter chip: four analog inputs, of which those that are selected are converted one by one.
+#![tactic(auto)]
+
 pub mod chip;
 pub mod queue;
 #[cfg(test)]

@@ -1,4 +1,5 @@
 // The eight quadrature encoders of a card.
+#![tactic(auto)]
 pub mod channel;
 pub mod eight;
 #[cfg(test)]

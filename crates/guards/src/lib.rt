@@ -1,4 +1,6 @@
 // What guards a card, and its digital port.
+#![tactic(auto)]
+
 pub mod fuse;
 pub mod port;
 pub mod sense;

@@ -1,4 +1,6 @@
 // The text of a trace: lines of digits to commands, and outcomes to records.
+#![tactic(auto)]
+
 pub mod command;
 pub mod cutting;
 pub mod digits;

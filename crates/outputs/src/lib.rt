@@ -1,4 +1,5 @@
 // The eight analog outputs of a card.
+#![tactic(auto)]
 pub mod channels;
 pub mod mode;
 #[cfg(test)]

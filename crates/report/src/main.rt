@@ -1,6 +1,7 @@
 // Replays a trace from standard input on a lift machine, and prints it with its answers, followed by an account
 // for people: what was refused and why, when each place came to rest and when the others will, and
 // what the cards put out and have counted.
+#![tactic(auto)]
 use account::account_of;
 use promise::lift::new_lift;
 use promise::set_up;

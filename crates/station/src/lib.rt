@@ -1,5 +1,7 @@
 // A station stands at one or more places of a chain. Its meaning, the rules that every kind keeps
 // and the pair of two members are here; the kinds themselves are crates above this one.
+#![tactic(auto)]
+
 ghost use Rattle.std.specs.Prelude.{◌≡◌, min};
 ghost use Rattle.station.specs.Meaning.{Meaning};
 ghost use Rattle.station.specs.Rules.{Rules};
