@@ -1,5 +1,6 @@
 // The bench: one chain of stations, and the calls that reach it.
 #![tactic(auto)]
+
 ghost use Rattle.std.specs.Prelude.{◌≡◌};
 ghost use Rattle.falls.specs.Forecasts.{Foretells};
 ghost use Rattle.falls.specs.Law.{Law};

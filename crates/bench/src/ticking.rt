@@ -63,7 +63,7 @@ impl<S: Station> Bench<S> {
         ensures after { self.new ≡ performed S.Station.meaning self.old (Until level count) }
         ensures stops { IfOk result (λ t. Stops S.Station.meaning self.old.chain level count t) }
     {
-        if count > MOST {
+        if MOST < count {
             return Err(Refusal::TooMany);
         }
         Ok(tick_until(&mut self.chain, level, count))

@@ -1,5 +1,6 @@
 // The eight quadrature encoders of a card.
 #![tactic(auto)]
+
 pub mod channel;
 pub mod eight;
 #[cfg(test)]

@@ -1,5 +1,6 @@
 // The law of falls: which place is held after which tick, for every station and every history.
 #![tactic(auto)]
+
 ghost use Rattle.std.specs.Prelude.{◌≡◌, ◌^◌, false};
 ghost use Rattle.falls.specs.Bounds.{AtMost};
 ghost use Rattle.falls.specs.Forecasts.{settled, waiting, foretold, unsettled, told, Foretells};

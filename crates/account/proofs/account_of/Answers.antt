@@ -8,10 +8,10 @@ loop-line-init g c = sofar_begun g.S.Station.meaning _ _ _ c.new-outcomes.ensure
 
 pub loop-line-preserved : goal.loop-line-preserved
 loop-line-preserved g c =
-    let told = c.replay-line-outcome.ensures in
-    let pushed = c.in-ok-push.ensures.items ∙ ap (λ o. vec_items c.loop-line.outcomes ++ (o ∷ [])) told.value in
+    let told = c.replay_line-outcome.ensures in
+    let pushed = c.in_ok-push.ensures.items ∙ ap (λ o. vec_items c.loop-line.outcomes ++ (o ∷ [])) told.value in
     sofar_more g.S.Station.meaning _ _ _ _ _ _ _ _ _ _ c.loop-line.invariant c.in-Some.ensures.0 told.after pushed
 
 pub returns : goal.returns
 returns g c =
-    sofar_all g.S.Station.meaning _ _ _ (view c.in-ok-watch.watch) _ _ c.loop-line.invariant c.in-default.ensures c.in-ok-watch.ensures
+    sofar_all g.S.Station.meaning _ _ _ (view c.in_ok-watch.watch) _ _ c.loop-line.invariant c.in_default.ensures c.in_ok-watch.ensures

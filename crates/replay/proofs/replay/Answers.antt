@@ -14,9 +14,9 @@ pub loop-line-preserved : goal.loop-line-preserved
 loop-line-preserved g c =
     let m = g.S.Station.meaning in
     let cut = c.in-Some.ensures.0 in
-    let told = c.replay-line-outcome.ensures in
+    let told = c.replay_line-outcome.ensures in
     let bytes = c.record.ensures ∙ ap record_of told.value in
-    let pushed = c.in-ok-extend-from-slice.ensures.items ∙ ap (λ r. vec_items c.loop-line.records ++ r) bytes in (
+    let pushed = c.in_ok-extend_from_slice.ensures.items ∙ ap (λ r. vec_items c.loop-line.records ++ r) bytes in (
       records_more m _ _ _ _ _ _ _ _ c.loop-line.invariant.0 cut told.after pushed,
       bench_more m _ _ _ _ _ _ c.loop-line.invariant.1 cut told.after,
     )
@@ -24,5 +24,5 @@ loop-line-preserved g c =
 pub returns : goal.returns
 returns g c =
     let m = g.S.Station.meaning in
-    let none = c.in-default.ensures in
+    let none = c.in_default.ensures in
     (records_all m _ _ _ _ c.loop-line.invariant.0 none, bench_all m _ _ _ c.loop-line.invariant.1 none)

@@ -12,17 +12,17 @@ loop-made-init g c = (until_begun g.S.Station.meaning _ _ _, refl)
 stopped : {S : Type 0} (m : Meaning S) (s : S) (level : Bool) (most made : ℕ) → made ≡ ticks_until m s level most → Stops m s level most made
 stopped m s level most made is = subst (Stops m s level most) (sym is) (until_stops m level s most)
 
-pub returns-then-any-pending : goal.returns-then-any-pending
-returns-then-any-pending g c =
+pub returns-then-any_pending : goal.returns-then-any_pending
+returns-then-any_pending g c =
     let m = g.S.Station.meaning in
-    let seen = sym c.any_pending.ensures ∙ c.if-any-pending.true in
+    let seen = sym c.any_pending.ensures ∙ c.if-any_pending.true in
     let is = until_here m _ _ _ _ _ c.loop-made-test.true seen c.loop-made.invariant.0 in
     record { value = is; after = c.loop-made.invariant.1; stops = stopped m _ _ _ _ is }
 
 pub loop-made-preserved : goal.loop-made-preserved
 loop-made-preserved g c =
     let m = g.S.Station.meaning in
-    let seen = sym c.any_pending.ensures ∙ c.if-any-pending.false in (
+    let seen = sym c.any_pending.ensures ∙ c.if-any_pending.false in (
       until_more m _ _ _ _ _ _ c.loop-made-test.true seen c.tick.ensures c.loop-made.invariant.0,
       c.tick.ensures ∙ ap (λ s. m.ticked s c.args.level) c.loop-made.invariant.1 ∙ sym (ticks_end m _ _ _),
     )

@@ -8,4 +8,4 @@ pub returns : goal.returns
 returns c =
     let all = eight c.args.encoders.now c.index-encoders-0.result c.index-encoders-1.result c.index-encoders-2.result c.index-encoders-3.result
     c.index-encoders-4.result c.index-encoders-5.result c.index-encoders-6.result c.index-encoders-7.result (omega (arith, c.told-encoders)) in
-    record { value = omega (arith, ap (gathered (λ (e : Encoder). e.lost)) all, c.byte-of.ensures.value); bound = c.byte-of.ensures.bound }
+    record { value = omega (arith, ap (gathered (λ (e : Encoder). e.lost)) all, c.byte_of.ensures.value); bound = c.byte_of.ensures.bound }

@@ -14,11 +14,11 @@ returns-then-character-eq10 c =
     let cut = line_ends _ _ c.loop-i-test.true c.if-character-eq10.true c.loop-i.invariant.1 in
     (cut.first, cut.shorter)
 
-pub returns-then-is-empty : goal.returns-then-is-empty
-returns-then-is-empty c = nothing_left _ (eqb-true _ _ (sym c.if-is-empty.ensures))
+pub returns-then-is_empty : goal.returns-then-is_empty
+returns-then-is_empty c = nothing_left _ (eqb-true _ _ (sym c.if-is_empty.ensures))
 
-pub returns-else-is-empty : goal.returns-else-is-empty
-returns-else-is-empty c =
-    let some = eqb-false _ _ (sym c.if-is-empty.ensures) in
+pub returns-else-is_empty : goal.returns-else-is_empty
+returns-else-is_empty c =
+    let some = eqb-false _ _ (sym c.if-is_empty.ensures) in
     let cut = trace_ends _ _ c.loop-i-test.false (omega (arith, some)) c.loop-i.invariant.1 in
     (cut.first, cut.shorter)

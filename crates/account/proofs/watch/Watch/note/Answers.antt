@@ -8,4 +8,4 @@ returns g c =
     let old = c.args.self.now in
     let after = rows_after g.S.Station.meaning old.bench old.ticks c.args.told 0 in
     ap (λ rows. record { bench = old.bench; ticks = old.ticks; rows = rows })
-    (with_items_is old.rows c.note-rows.new.rows (omega arith) ∙ c.note-rows.ensures ∙ ap after c.deref-mut.ensures.value)
+    (with_items_is old.rows c.note_rows.new.rows (omega arith) ∙ c.note_rows.ensures ∙ ap after c.deref_mut.ensures.value)

@@ -5,9 +5,9 @@ use Rattle.card.specs.Quiet.{quiet}
 use Rattle.card.proofs.Same.{same_card}
 use Rattle.card.proofs.calls.CardStation.tick.Goals as goal
 
-pub invariant-of-self : goal.invariant-of-self
-invariant-of-self c = (subst (λ b. quiet b ≡ true) (sym c.tick-board.ensures) (hold_quiet (ticked c.args.self.now.board c.args.level)), tt)
+pub invariant_of-self : goal.invariant_of-self
+invariant_of-self c = (subst (λ b. quiet b ≡ true) (sym c.tick_board.ensures) (hold_quiet (ticked c.args.self.now.board c.args.level)), tt)
 
 pub returns : goal.returns
 unfolding settled
-returns c = same_card _ _ c.tick-board.ensures
+returns c = same_card _ _ c.tick_board.ensures

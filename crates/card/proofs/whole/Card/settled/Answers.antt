@@ -4,8 +4,8 @@ use Rattle.card.specs.Quiet.{quiet}
 use Rattle.card.proofs.Same.{same_card}
 use Rattle.card.proofs.whole.Card.settled.Goals as goal
 
-pub invariant-of-result : goal.invariant-of-result
-invariant-of-result c = (subst (λ b. quiet b ≡ true) (sym c.hold.ensures) (hold_quiet c.args.board), tt)
+pub invariant_of-result : goal.invariant_of-result
+invariant_of-result c = (subst (λ b. quiet b ≡ true) (sym c.hold.ensures) (hold_quiet c.args.board), tt)
 
 pub returns : goal.returns
 unfolding settled
