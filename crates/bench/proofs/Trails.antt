@@ -1,20 +1,19 @@
 -- The trail of a list of requests leads where the requests lead.
-use Rattle.std.proofs.Common.{◌≡◌, ℕ, zero, suc, ◌+◌, ◌<◌, Bool, true, false, cond, ltb, List, [], ◌∷◌, ◌++◌, replicate, is_ok, Ok, Err, Option, Result, sym, refl, ap, ◌∙◌, subst, ⊎_elim, append_assoc, zero-add, arith}
-use Rattle.std.proofs.lemmas.Bool.{cases_Bool, cond-true, cond-false, ltb-true}
+use Rattle.std.proofs.Common.{◌≡◌, ℕ, zero, suc, ◌+◌, ◌<◌, Bool, true, false, cond, ltb, List, [], ◌∷◌, ◌++◌, replicate, is_ok, Ok, Err, Result, sym, refl, ap, ◌∙◌, subst, append_assoc, zero-add, arith}
+use Rattle.std.proofs.lemmas.Bool.{ltb-true}
 use Rattle.station.specs.Meaning.{Meaning, Value}
 use Rattle.station.specs.Rules.{Rules}
 use Rattle.station.specs.declared.call.Call.{Call}
 use Rattle.station.specs.declared.call.Call.TheVariants as call
 use Rattle.station.specs.declared.refusal.Refusal.{Refusal as Turned}
-use Rattle.falls.specs.Histories.{Step, tick, call as call_at, History, play, ticks as ticks-in, NoGuard}
+use Rattle.falls.specs.Histories.{tick, call as call_at, History, play, ticks as ticks-in, NoGuard}
 use Rattle.falls.proofs.Falls.{played_size}
 use Rattle.bench.specs.declared.Bench.{Bench}
 use Rattle.bench.specs.declared.refusal.Refusal.{Refusal}
-use Rattle.bench.specs.declared.refusal.Refusal.TheVariants.{NoPlace, TooMany, NoService}
+use Rattle.bench.specs.declared.refusal.Refusal.TheVariants.{NoPlace, TooMany}
 use Rattle.bench.specs.declared.request.Request.{Request}
 use Rattle.bench.specs.declared.request.Request.TheVariants.{Read, Write, Wire, Run, Until, Take, Acknowledge, Volts, Preload, Arm, Kick}
-use Rattle.bench.specs.Calls.{told, with_chain, places, answer_at, after_at, taken, after_take, acknowledged, after_acknowledge, reply, performed}
-use Rattle.bench.specs.Services.{service, same_service}
+use Rattle.bench.specs.Calls.{told, with_chain, places, taken, after_take, acknowledged, after_acknowledge, reply, performed}
 use Rattle.bench.specs.Ticks.{ticks, ticks_until}
 use Rattle.bench.specs.Trails.{afterwards, ticks_of, ticks_told, ticks_returned, called_at, steps, trail, Unguarded}
 

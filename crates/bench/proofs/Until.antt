@@ -1,8 +1,8 @@
 -- Ticks until an interrupt is pending.
-use Rattle.std.proofs.Common.{◌≡◌, ℕ, zero, suc, ◌+◌, ◌-◌, ◌<◌, ◌≤◌, Bool, true, false, cond, ◌⊎◌, sym, refl, ap, ◌∙◌, subst, inl, inr, ⊎_elim, zero-add, add-one, arith}
+use Rattle.std.proofs.Common.{◌≡◌, ℕ, zero, suc, ◌+◌, ◌-◌, ◌<◌, Bool, true, false, sym, refl, ap, ◌∙◌, subst, inl, inr, ⊎_elim, zero-add, add-one, arith}
 use Rattle.std.proofs.lemmas.Bool.{cases_Bool, cond-true, cond-false}
 use Rattle.station.specs.Meaning.{Meaning}
-use Rattle.bench.specs.Ticks.{ticks, any_pending, ticks_until, Silent, Pending, Stops}
+use Rattle.bench.specs.Ticks.{ticks, any_pending, ticks_until, Silent, Stops}
 use Rattle.bench.proofs.Pending.{silent, stands}
 
 module _ {S : Type 0} (m : Meaning S) (level : Bool) where

@@ -1,5 +1,5 @@
 -- The services of the sixteen places.
-use Rattle.std.specs.Prelude.{◌≡◌, ℕ, Bool, false, replicate, Some, None, Option, ◌==◌, slice_index_or, slice_set, refl}
+use Rattle.std.specs.Prelude.{ℕ, Bool, false, replicate, Some, None, Option, ◌==◌, slice_index_or, slice_set, refl}
 use Rattle.std.proofs.Common.{◌∙◌, length-set}
 use Rattle.bench.specs.declared.services.Services.{Services}
 

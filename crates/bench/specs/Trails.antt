@@ -1,9 +1,9 @@
 -- Lists of requests, and the trail of single steps of the chain that they leave.
-use Rattle.std.specs.Prelude.{◌≡◌, ℕ, ◌+◌, Bool, false, List, [], ◌∷◌, ◌++◌, replicate, Ok, Err, Result}
+use Rattle.std.specs.Prelude.{◌≡◌, ℕ, ◌+◌, false, List, [], ◌∷◌, ◌++◌, replicate, Ok, Err, Result}
 use Rattle.station.specs.Meaning.{Meaning}
 use Rattle.station.specs.declared.call.Call.{Call}
 use Rattle.station.specs.declared.call.Call.TheVariants as call
-use Rattle.falls.specs.Histories.{Step, tick, call as call_at, History}
+use Rattle.falls.specs.Histories.{tick, call as call_at, History}
 use Rattle.bench.specs.declared.Bench.{Bench}
 use Rattle.bench.specs.declared.refusal.Refusal.{Refusal}
 use Rattle.bench.specs.declared.request.Request.{Request}

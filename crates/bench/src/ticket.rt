@@ -1,6 +1,7 @@
 ghost use Rattle.std.specs.Prelude.{◌≡◌};
 
-// An interrupt that was taken: the place and its pending bits. It has to be acknowledged.
+// An interrupt that was taken: the place and its pending bits. It has to be acknowledged: the type is not `Drop`, so
+// a ticket that is let go is refused.
 pub struct Ticket {
     place: u8,
     bits: u32,
@@ -27,15 +28,6 @@ impl Ticket {
 
     // The only end of a ticket.
     pub(crate) fn spend(self) {
-        let Ticket { place: _, bits: _ } = self;
-    }
-}
-
-// Nobody can meet what this asks, so a ticket that is let go is refused by the prover.
-impl Drop for Ticket {
-    fn drop(self)
-        requires { ⊥ }
-    {
         let Ticket { place: _, bits: _ } = self;
     }
 }

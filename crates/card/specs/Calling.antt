@@ -8,7 +8,7 @@ use Rattle.bits.specs.Words.{bit, weight}
 use Rattle.converter.specs.Chips.{moved_on}
 use Rattle.converter.specs.declared.chip.Chip.{Chip}
 use Rattle.encoder.specs.Channels.{fresh, wired as levels-set}
-use Rattle.encoder.specs.Each.{gathered, gathered_by}
+use Rattle.encoder.specs.Each.{gathered_by}
 use Rattle.encoder.specs.declared.channel.Encoder.{Encoder as Channel}
 use Rattle.board.specs.Boards.{held}
 use Rattle.board.specs.Reads.{fetched, after_read, interrupts}

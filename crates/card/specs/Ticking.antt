@@ -1,5 +1,5 @@
 -- A card keeps the rules of a station: at any time, and in a tick.
-use Rattle.std.specs.Prelude.{◌≡◌, ℕ, ◌+◌, ◌-◌, Bool, true, false, cond, not, ◌&&◌, ◌||◌, ◌⊎◌, Some, None, ◌==◌, ◌≢◌, refl}
+use Rattle.std.specs.Prelude.{◌≡◌, ℕ, ◌+◌, ◌-◌, Bool, true, false, cond, not, ◌&&◌, ◌||◌, Some, None, ◌==◌, ◌≢◌, refl}
 use Rattle.std.proofs.Math.Path.{sym, ap}
 use Rattle.std.proofs.Common.{◌∙◌, ⊎_elim, arith}
 use Rattle.std.proofs.lemmas.Bool.{and_parts, and_from, cases_Bool, cond-true, cond-false, eqb-false, ne_eqb, or_parts, true≢false}
@@ -13,7 +13,7 @@ use Rattle.outputs.proofs.Hushed.{hushed_rests}
 use Rattle.station.specs.Rules.{Sound, Ticks, due_now, sooner, falls}
 use Rattle.card.specs.declared.whole.Card.{Card}
 use Rattle.card.specs.Cards.{card, settled}
-use Rattle.card.specs.Facts.{line, passes, ready, rest, seen}
+use Rattle.card.specs.Facts.{passes, ready, rest, seen}
 use Rattle.card.specs.Quiet.{quiet}
 use Rattle.card.specs.Bools.{ready_by, held_by, stands, fall_exactly, fall_else_ready, held_stays_by}
 

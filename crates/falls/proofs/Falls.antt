@@ -3,7 +3,7 @@
 use Rattle.std.proofs.Common.{◌≡◌, ℕ, zero, suc, ◌+◌, ◌-◌, ◌<◌, ◌≤◌, Bool, true, false, cond, not, ◌||◌, ◌⊎◌, [], ◌∷◌, Some, Option, sym, refl, ap, ◌∙◌, subst, inl, inr, ⊎_elim, arith}
 use Rattle.std.proofs.lemmas.Bool.{cases_Bool, cases_lt, cond-true, cond-false, or_right, or_cases, or_parts, true≢false}
 use Rattle.station.specs.Meaning.{Meaning}
-use Rattle.station.specs.Rules.{Rules, Ticks, Kept, heard, falls, due_now, sooner}
+use Rattle.station.specs.Rules.{Rules, Ticks, Kept, heard, falls, due_now}
 use Rattle.station.specs.declared.call.Call.{Call}
 use Rattle.falls.specs.Histories.{tick, call, History, play, ticks, NoGuard, earlier, one_later, own_tick}
 use Rattle.falls.specs.Law.{Addressed, AllReady, Reached, Law}

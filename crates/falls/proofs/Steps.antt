@@ -1,5 +1,5 @@
 -- What one step does to what is known of a place.
-use Rattle.std.proofs.Common.{◌≡◌, ℕ, ◌<◌, Bool, false, cond, eqb, ltb, ◌⊎◌, is_ok, sym, refl, ap, subst, ⊎_elim}
+use Rattle.std.proofs.Common.{◌≡◌, ℕ, ◌<◌, Bool, false, cond, eqb, ltb, is_ok, sym, refl, ap, subst, ⊎_elim}
 use Rattle.std.proofs.lemmas.Bool.{cases_Bool, cases_eq, cond_both}
 use Rattle.station.specs.Meaning.{Meaning}
 use Rattle.station.specs.Rules.{Rules, Kept, Does, with_stop}

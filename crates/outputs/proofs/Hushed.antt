@@ -1,5 +1,5 @@
 -- Outputs that are hushed are at rest.
-use Rattle.std.proofs.Common.{◌≡◌, ℕ, zero as none, suc, true, false, eqb, List, [], ◌∷◌, get_or, sym, refl, ap, ◌∙◌}
+use Rattle.std.proofs.Common.{◌≡◌, ℕ, zero as none, suc, true, eqb, List, [], ◌∷◌, get_or, sym, refl, ap, ◌∙◌}
 use Rattle.std.proofs.lemmas.Bool.{and_parts, and_from, eqb-true, true≢false}
 use Rattle.bits.specs.Codes.{code_of}
 use Rattle.bits.specs.declared.code.Code.{Code}
