@@ -1,7 +1,6 @@
 -- Cards and drives that are at rest put out nothing.
-use Rattle.std.proofs.Common.{◌≡◌, ℕ, zero as none, suc, ◌<◌, true, ◌&&◌, ltb, ℤ, pos, negsuc, Ok, Err, sym, refl, ap, ◌∙◌, arith}
+use Rattle.std.proofs.Common.{◌≡◌, ℕ, zero as none, suc, ◌<◌, true, ℤ, pos, negsuc, Ok, sym, ap, ◌∙◌, arith}
 use Rattle.std.proofs.lemmas.Bool.{and_parts, eqb-true, cond-true, lt-ltb, true≢false}
-use Rattle.station.specs.declared.refusal.Refusal.{Refusal}
 use Rattle.outputs.specs.Channels.{volts, zero, at_rest}
 use Rattle.outputs.specs.declared.channels.Outputs.{Outputs}
 use Rattle.card.specs.Cards.{card}

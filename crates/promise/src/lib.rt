@@ -1,5 +1,6 @@
 // The promise of the bench: what holds of every chain and every list of calls, in one contract.
 #![tactic(auto)]
+
 ghost use Rattle.std.specs.Prelude.{◌≡◌, List};
 ghost use Rattle.bench.specs.Calls.{fresh};
 ghost use Rattle.bench.specs.declared.request.Request.{Request};

@@ -1,5 +1,6 @@
 // A recorded trace replayed on a bench: bytes in, records out.
 #![tactic(auto)]
+
 ghost use Rattle.std.specs.Prelude.{◌≡◌, IfOk};
 ghost use Rattle.lines.specs.Cuts.{lines};
 ghost use Rattle.lines.specs.Lines.{decoded};
