@@ -1,5 +1,6 @@
 // An account of a trace: what came of each line, and when each place came to rest.
 #![tactic(auto)]
+
 ghost use Rattle.std.specs.Prelude.{IfOk};
 ghost use Rattle.lines.specs.Cuts.{lines};
 ghost use Rattle.account.specs.Accounts.{Accounts};
