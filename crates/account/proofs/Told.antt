@@ -1,6 +1,5 @@
 -- An account line by line.
-use Rattle.std.proofs.Common.{◌≡◌, ℕ, zero, suc, ◌+◌, Bool, true, false, cond, ltb, List, [], ◌∷◌, ◌++◌, Ok, Err, vec_items, Result, Vec, sym, refl, ap, ◌∙◌, append_assoc, append-nil}
-use Rattle.std.proofs.lemmas.Bool.{cond-true}
+use Rattle.std.proofs.Common.{◌≡◌, ℕ, zero, suc, Bool, true, false, cond, ltb, List, [], ◌∷◌, ◌++◌, Ok, Err, vec_items, Result, Vec, sym, refl, ap, ◌∙◌, append_assoc, append-nil}
 use Rattle.std.specs.declared.alloc.Global.{Global}
 use Rattle.station.specs.Meaning.{Meaning}
 use Rattle.bench.specs.Calls.{with_chain, performed}

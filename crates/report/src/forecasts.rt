@@ -3,11 +3,17 @@ use crate::units::Microseconds;
 use account::watch::Watch;
 use falls::forecast::Forecast;
 use station::Station;
+use std::alloc::AllocError;
 use std::fmt;
 use std::fmt::Write;
 
 // The row of a place, where so many ticks have been made.
-fn write_forecast(out: &mut String, place: u8, made: u64, forecast: Forecast) -> fmt::Result {
+fn write_forecast(
+    out: &mut String,
+    place: u8,
+    made: u64,
+    forecast: Forecast,
+) -> Result<(), AllocError> {
     match forecast {
         Forecast::At { tick } => {
             let at = u128::from(made).saturating_add(tick);

@@ -2,6 +2,7 @@
 // for people: what was refused and why, when each place came to rest and when the others will, and
 // what the cards put out and have counted.
 #![tactic(auto)]
+
 use account::account_of;
 use promise::lift::new_lift;
 use promise::set_up;

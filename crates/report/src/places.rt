@@ -4,6 +4,7 @@ use crate::units::Microseconds;
 use account::row::{Rest, Row};
 use account::watch::Watch;
 use station::Station;
+use std::alloc::AllocError;
 use std::fmt;
 use std::fmt::Write;
 
@@ -34,7 +35,7 @@ fn why(place: u8, rest: Rest) -> &'static str {
 }
 
 // Whether the place is held, since when, and why.
-fn write_rest(out: &mut String, place: u8, rest: Option<Rest>) -> fmt::Result {
+fn write_rest(out: &mut String, place: u8, rest: Option<Rest>) -> Result<(), AllocError> {
     let Some(rest) = rest else {
         return write!(out, "{:<4}  {:>10}  {:>12}  {:<32}", "no", "-", "-", "-");
     };
@@ -49,7 +50,7 @@ fn write_rest(out: &mut String, place: u8, rest: Option<Rest>) -> fmt::Result {
     )
 }
 
-fn write_due(out: &mut String, row: Row) -> fmt::Result {
+fn write_due(out: &mut String, row: Row) -> Result<(), AllocError> {
     match row.facts.due {
         Some(ticks) => writeln!(out, "  {ticks:>10}"),
         None => writeln!(out, "  {:>10}", "-"),

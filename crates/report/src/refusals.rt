@@ -1,6 +1,7 @@
 // What was carried out and what was refused.
 use crate::units::Microseconds;
 use lines::outcome::Outcome;
+use std::alloc::AllocError;
 use std::fmt;
 use std::fmt::Write;
 
@@ -22,7 +23,7 @@ fn sentence(number: u8) -> &'static str {
 }
 
 // How many lines were carried out and refused, and how many ticks they made.
-pub fn write_tally(out: &mut String, outcomes: &[Outcome], ticks: u64) -> fmt::Result {
+pub fn write_tally(out: &mut String, outcomes: &[Outcome], ticks: u64) -> Result<(), AllocError> {
     let mut carried: u64 = 0;
     let mut refused: u64 = 0;
     for outcome in outcomes {

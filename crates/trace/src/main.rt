@@ -1,5 +1,6 @@
 // Replays a trace from standard input on a lift machine, and writes a record for each line.
 #![tactic(auto)]
+
 use promise::lift::new_lift;
 use promise::set_up;
 use replay::replay;
