@@ -1,21 +1,19 @@
 -- An account line by line.
-use Rattle.std.proofs.Common.{◌≡◌, ℕ, zero, suc, Bool, true, false, cond, ltb, List, [], ◌∷◌, ◌++◌, Ok, Err, vec_items, Result, Vec, sym, refl, ap, ◌∙◌, append_assoc, append-nil}
-use Rattle.std.specs.declared.alloc.Global.{Global}
+use Rattle.std.proofs.Common.{◌≡◌, ℕ, zero, suc, Bool, true, false, cond, ltb, List, [], ◌∷◌, ◌++◌, Ok, Err, Result, sym, refl, ap, ◌∙◌, append_assoc}
 use Rattle.station.specs.Meaning.{Meaning}
 use Rattle.bench.specs.Calls.{with_chain, performed}
 use Rattle.bench.specs.Ticks.{ticks, ticks_until}
 use Rattle.bench.specs.declared.Bench.{Bench}
 use Rattle.bench.specs.declared.request.Request.{Request}
 use Rattle.bench.specs.declared.request.Request.TheVariants.{Read, Write, Wire, Run, Until, Take, Acknowledge, Volts, Preload, Arm, Kick}
-use Rattle.lines.specs.Cuts.{lines, lines_from}
+use Rattle.lines.specs.Cuts.{lines}
 use Rattle.lines.specs.Lines.{decoded}
 use Rattle.lines.specs.declared.command.Command.{Command}
 use Rattle.lines.specs.declared.malformed.Malformed.{Malformed}
 use Rattle.lines.specs.declared.outcome.Outcome.{Outcome}
 use Rattle.replay.specs.Replays.{request, line_told, after_line, left_by}
-use Rattle.account.specs.Watches.{View, call_view, tick_view, run_view, request_view, line_view, view, begun}
-use Rattle.account.specs.declared.watch.Watch.{Watch}
-use Rattle.account.specs.Accounts.{Accounts, told, lines_view}
+use Rattle.account.specs.Watches.{View, call_view, tick_view, run_view, request_view, line_view}
+use Rattle.account.specs.Accounts.{told, lines_view}
 
 module _ {S : Type 0} (m : Meaning S) where
   -- watched or not, the bench comes to the same
@@ -29,7 +27,7 @@ module _ {S : Type 0} (m : Meaning S) where
   run_either q level count v true e = e
   run_either q level count v false e = run_bench level count v
 
-  request_bench : (q : Request) (v : View S) → (request_view m q v).bench ≡ performed m v.bench q
+  pub request_bench : (q : Request) (v : View S) → (request_view m q v).bench ≡ performed m v.bench q
   request_bench (Read place register) v = refl
   request_bench (Write place register value) v = refl
   request_bench (Wire place wire level) v = refl
@@ -42,7 +40,7 @@ module _ {S : Type 0} (m : Meaning S) where
   request_bench (Arm place) v = refl
   request_bench (Kick place) v = refl
 
-  line_bench : (r : Result Command Malformed) (v : View S) → (line_view m r v).bench ≡ after_line m v.bench r
+  pub line_bench : (r : Result Command Malformed) (v : View S) → (line_view m r v).bench ≡ after_line m v.bench r
   line_bench (Ok c) v = request_bench (request c) v
   line_bench (Err e) v = refl
 
@@ -67,14 +65,3 @@ module _ {S : Type 0} (m : Meaning S) where
 
   pub sofar_begun : (v : View S) (all : List (List ℕ)) (out : List Outcome) → out ≡ [] → Sofar v.bench all v out v all
   sofar_begun v all out none = record { outcomes = ap (λ o. o ++ told m v.bench all) (sym none); seen = refl; bench = refl }
-
-  pub sofar_all : (b : Bench S) (w : Watch S) (all : List (List ℕ)) (start : View S) (os : Vec Outcome Global) (left : List ℕ) →
-      Sofar start.bench all start (vec_items os) (view w) (lines left) → left ≡ [] → start ≡ begun m b → Accounts m b all (record { watch = w; outcomes = os })
-  unfolding told lines_view left_by lines lines_from
-  sofar_all b w all start os left sofar none begins =
-      let from : start.bench ≡ b = ap (λ (x : View S). x.bench) begins in
-      record {
-        outcomes = sym (ap (λ x. told m x all) (sym from) ∙ sofar.outcomes ∙ ap (λ l. vec_items os ++ told m w.bench (lines l)) none ∙ append-nil (vec_items os));
-        seen = sym (ap (lines_view m all) (sym begins) ∙ sofar.seen ∙ ap (λ l. lines_view m (lines l) (view w)) none);
-        bench = sym (ap (λ x. left_by m x all) (sym from) ∙ sofar.bench ∙ ap (λ l. left_by m w.bench (lines l)) none);
-      }

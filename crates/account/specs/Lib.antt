@@ -1,3 +1,4 @@
 pub mod Rows
 pub mod Watches
 pub mod Accounts
+pub mod Sinces

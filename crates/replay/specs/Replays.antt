@@ -77,3 +77,12 @@ replayed m b (l ∷ ls) = record_of (line_told m b (decoded l)) ++ replayed m (a
 unfoldable pub left_by : {S : Type 0} → Meaning S → Bench S → List (List ℕ) → Bench S
 left_by m b [] = b
 left_by m b (l ∷ ls) = left_by m (after_line m b (decoded l)) ls
+
+-- the requests that a trace's lines make, one each but for a line that is no command
+abbrev pub line_requests : Result Command Malformed → List Request
+line_requests (Ok c) = request c ∷ []
+line_requests (Err e) = []
+
+unfoldable pub asked : List (List ℕ) → List Request
+asked [] = []
+asked (l ∷ ls) = line_requests (decoded l) ++ asked ls

@@ -4,8 +4,9 @@
 ghost use Rattle.std.specs.Prelude.{◌≡◌, IfOk};
 ghost use Rattle.lines.specs.Cuts.{lines};
 ghost use Rattle.lines.specs.Lines.{decoded};
-ghost use Rattle.replay.specs.Replays.{request, refused, malformed, worded, blank, stepped, outcome, line_told, after_line, replayed, left_by};
+ghost use Rattle.replay.specs.Replays.{request, refused, malformed, worded, blank, stepped, outcome, line_told, after_line, replayed, left_by, asked};
 ghost use Rattle.bench.specs.Calls.{reply, performed};
+ghost use Rattle.bench.specs.Trails.{afterwards};
 
 use bench::Bench;
 use bench::refusal::Refusal;
@@ -108,7 +109,8 @@ pub fn replay<S: Station + Drop>(
     mut bench: Bench<S>,
     trace: &[u8],
 ) -> Result<Replayed<S>, AllocError>
-    ensures { IfOk result (λ done. (done.records.items ≡ replayed S.Station.meaning bench (lines trace.now)) × (done.bench ≡ left_by S.Station.meaning bench (lines trace.now))) }
+    ensures replayed { IfOk result (λ done. (done.records.items ≡ replayed S.Station.meaning bench (lines trace.now)) × (done.bench ≡ left_by S.Station.meaning bench (lines trace.now))) }
+    ensures requests { IfOk result (λ done. done.bench ≡ afterwards S.Station.meaning bench (asked (lines trace.now))) }
 {
     let mut records = Vec::new(heap);
     let mut rest = trace;

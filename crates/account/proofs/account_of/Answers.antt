@@ -1,6 +1,7 @@
 use Rattle.std.proofs.Common.{[], ◌∷◌, ◌++◌, vec_items, ap, ◌∙◌}
 use Rattle.account.specs.Watches.{view}
-use Rattle.account.proofs.Told.{sofar_begun, sofar_more, sofar_all}
+use Rattle.account.proofs.Accounted.{sofar_all}
+use Rattle.account.proofs.Told.{sofar_begun, sofar_more}
 use Rattle.account.proofs.account_of.Goals as goal
 
 pub loop-line-init : goal.loop-line-init
@@ -14,4 +15,4 @@ loop-line-preserved g c =
 
 pub returns : goal.returns
 returns g c =
-    sofar_all g.S.Station.meaning _ _ _ (view c.in_ok-watch.watch) _ _ c.loop-line.invariant c.in_default.ensures c.in_ok-watch.ensures
+    sofar_all g.S.Station.meaning g.met.S.Station.rules _ _ _ (view c.in_ok-watch.watch) _ _ c.loop-line.invariant c.in_default.ensures c.in_ok-watch.ensures

@@ -2,6 +2,7 @@ use Rattle.std.proofs.Common.{◌++◌, vec_items, sym, refl, ap, ◌∙◌}
 use Rattle.lines.specs.Cuts.{lines}
 use Rattle.lines.specs.Records.{record_of}
 use Rattle.replay.specs.Replays.{replayed}
+use Rattle.replay.proofs.Asked.{left_asked}
 use Rattle.replay.proofs.Steps.{records_more, bench_more, records_all, bench_all}
 use Rattle.replay.proofs.replay.Goals as goal
 
@@ -25,4 +26,8 @@ pub returns : goal.returns
 returns g c =
     let m = g.S.Station.meaning in
     let none = c.in_default.ensures in
-    (records_all m _ _ _ _ c.loop-line.invariant.0 none, bench_all m _ _ _ c.loop-line.invariant.1 none)
+    let left = bench_all m _ _ _ c.loop-line.invariant.1 none in
+    record {
+      replayed = (records_all m _ _ _ _ c.loop-line.invariant.0 none, left);
+      requests = left ∙ left_asked m (lines c.args.trace.now) c.args.bench;
+    }
