@@ -1,10 +1,9 @@
 -- What each call of the bench answers, and what it makes of the bench.
-use Rattle.std.specs.Prelude.{◌≡◌, ℕ, min, Bool, true, false, cond, ℤ, is_some, Some, None, Ok, Err, Option, Result, ◌==◌, nat_lt}
+use Rattle.std.specs.Prelude.{ℕ, min, Bool, cond, ℤ, is_some, Some, None, Ok, Err, Option, Result, ◌==◌, nat_lt}
 use Rattle.station.specs.Meaning.{Meaning, Value}
 use Rattle.station.specs.declared.call.Call.{Call}
 use Rattle.station.specs.declared.call.Call.TheVariants as call
 use Rattle.station.specs.declared.facts.Facts.{Facts}
-use Rattle.station.specs.declared.place.Place.{Place}
 use Rattle.station.specs.declared.refusal.Refusal.{Refusal as Turned}
 use Rattle.falls.specs.Forecasts.{foretold, unsettled, told as forecast}
 use Rattle.falls.specs.declared.forecast.Forecast.{Forecast}
@@ -31,11 +30,6 @@ serving b place o = record { chain = b.chain; services = with_service b.services
 -- the number of places that have an address
 abbrev pub places : {S : Type 0} → Meaning S → Bench S → ℕ
 places m b = min 16 (m.size b.chain)
-
--- the place of a number is found, or there is none with an address
-abbrev pub Finds : {S : Type 0} → Meaning S → Bench S → ℕ → Result Place Refusal → Type 0
-Finds m b number (Ok place) = (place.number ≡ number) × (nat_lt number (places m b) ≡ true)
-Finds m b number (Err why) = (why ≡ NoPlace number) × (nat_lt number (places m b) ≡ false)
 
 -- what there is to see of a place
 abbrev pub looked : {S : Type 0} → Meaning S → Bench S → ℕ → Result Facts Refusal

@@ -1,10 +1,11 @@
 // The bench: one chain of stations, and the calls that reach it.
 #![tactic(auto)]
 
-ghost use Rattle.std.specs.Prelude.{◌≡◌};
+ghost use Rattle.std.specs.Prelude.{◌≡◌, true, false, MatchResult, nat_lt};
+ghost use Rattle.bench.specs.declared.refusal.Refusal.TheVariants.{NoPlace};
 ghost use Rattle.falls.specs.Forecasts.{Foretells};
 ghost use Rattle.falls.specs.Law.{Law};
-ghost use Rattle.bench.specs.Calls.{fresh, places, Finds, looked, foreseen};
+ghost use Rattle.bench.specs.Calls.{fresh, places, looked, foreseen};
 
 use falls::forecast::Forecast;
 use falls::foretell;
@@ -52,7 +53,7 @@ impl<S: Station> Bench<S> {
 
     // The place of that number, if it is in the chain and has an address.
     fn at(&self, place: u8) -> Result<Place, Refusal>
-        ensures { Finds S.Station.meaning self.now place result }
+        ensures { MatchResult result (λ p. (p.number ≡ place) × (nat_lt place (places S.Station.meaning self.now) ≡ true)) (λ e. (e ≡ NoPlace place) × (nat_lt place (places S.Station.meaning self.now) ≡ false)) }
     {
         if place < self.chain.places() {
             Ok(Place { number: place })

@@ -76,10 +76,11 @@ impl Board {
     }
 
     // The board after one tick.
-    pub fn ticked(mut self, level: bool) -> Board
+    pub fn ticked(self, level: bool) -> Board
         ensures { result ≡ ticked self level }
     {
-        self.tick(level);
-        self
+        let mut board = self;
+        board.tick(level);
+        board
     }
 }
