@@ -6,7 +6,7 @@ use Rattle.station.specs.Rules.{Rules}
 use Rattle.station.specs.declared.call.Call.{Call}
 use Rattle.station.specs.declared.call.Call.TheVariants as call
 use Rattle.station.specs.declared.refusal.Refusal.{Refusal as Turned}
-use Rattle.falls.specs.Histories.{tick, call as call_at, History, play, ticks as ticks-in, NoGuard}
+use Rattle.falls.specs.Histories.{tick, call as call_at, History, play, ticks as ticks_in, NoGuard}
 use Rattle.falls.proofs.Falls.{played_size}
 use Rattle.bench.specs.declared.Bench.{Bench}
 use Rattle.bench.specs.declared.refusal.Refusal.{Refusal}
@@ -18,16 +18,16 @@ use Rattle.bench.specs.Ticks.{ticks, ticks_until}
 use Rattle.bench.specs.Trails.{afterwards, ticks_of, ticks_told, ticks_returned, called_at, steps, trail, Unguarded}
 
 -- histories one after the other
-pub ticks_both : (g h : History) → ticks-in (g ++ h) ≡ ticks-in g + ticks-in h
+pub ticks_both : (g h : History) → ticks_in (g ++ h) ≡ ticks_in g + ticks_in h
 ticks_both [] h = sym (zero-add _)
 ticks_both (tick level ∷ g) h = let e = ticks_both g h in omega arith
 ticks_both (call_at p c ∷ g) h = ticks_both g h
 
-ticks_same : (level : Bool) (n : ℕ) → ticks-in (replicate n (tick level)) ≡ n
+ticks_same : (level : Bool) (n : ℕ) → ticks_in (replicate n (tick level)) ≡ n
 ticks_same level zero = refl
 ticks_same level (suc n) = ap suc (ticks_same level n)
 
-ticks_none : {A : Type 0} (p : ℕ) (c : Call) (r : Result A Refusal) → ticks-in (called_at p c r) ≡ 0
+ticks_none : {A : Type 0} (p : ℕ) (c : Call) (r : Result A Refusal) → ticks_in (called_at p c r) ≡ 0
 ticks_none p c (Ok value) = refl
 ticks_none p c (Err why) = refl
 
@@ -114,7 +114,7 @@ module _ {S : Type 0} (m : Meaning S) (R : Rules m) where
       ∙ ap (λ s. play m s (trail m (performed m b q) qs)) (sym (moves b q)) ∙ leads qs (performed m b q)
 
   -- it has the ticks that run and until return
-  request_ticks : (b : Bench S) (q : Request) → ticks-in (steps m b q) ≡ ticks_told q (reply m b q)
+  request_ticks : (b : Bench S) (q : Request) → ticks_in (steps m b q) ≡ ticks_told q (reply m b q)
   request_ticks b (Read place register) = ticks_none _ _ (reply m b (Read place register))
   request_ticks b (Write place register value) = ticks_none _ _ (reply m b (Write place register value))
   request_ticks b (Wire place wire level) = ticks_none _ _ (reply m b (Wire place wire level))
@@ -127,11 +127,11 @@ module _ {S : Type 0} (m : Meaning S) (R : Rules m) where
   request_ticks b (Arm place) = ticks_none _ _ (reply m b (Arm place))
   request_ticks b (Kick place) = ticks_none _ _ (reply m b (Kick place))
 
-  pub counts : (qs : List Request) (b : Bench S) → ticks-in (trail m b qs) ≡ ticks_returned m b qs
+  pub counts : (qs : List Request) (b : Bench S) → ticks_in (trail m b qs) ≡ ticks_returned m b qs
   counts [] b = refl
   counts (q ∷ qs) b =
       ticks_both (steps m b q) (trail m (performed m b q) qs)
-      ∙ ap (λ n. n + ticks-in (trail m (performed m b q) qs)) (request_ticks b q)
+      ∙ ap (λ n. n + ticks_in (trail m (performed m b q) qs)) (request_ticks b q)
       ∙ ap (λ n. ticks_told q (reply m b q) + n) (counts qs (performed m b q))
 
   -- its calls are made at places of the chain

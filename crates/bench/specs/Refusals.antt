@@ -1,12 +1,12 @@
 -- The number of each refusal of the bench, the layer that it comes from, and the place that it names.
 use Rattle.std.specs.Prelude.{ℕ}
-use Rattle.station.specs.Numbers.{number as turned-number}
+use Rattle.station.specs.Numbers.{number as turned_number}
 use Rattle.bench.specs.declared.refusal.Refusal.{Refusal}
 use Rattle.bench.specs.declared.refusal.Refusal.TheVariants.{NoPlace, Station, TooMany, NothingPending, ServiceOpen, NoService}
 
 abbrev pub number : Refusal → ℕ
 number (NoPlace place) = 1
-number (Station place why) = turned-number why
+number (Station place why) = turned_number why
 number TooMany = 6
 number (NothingPending place) = 7
 number (ServiceOpen place) = 8

@@ -1,8 +1,8 @@
 -- All parts of a card, and one tick of them.
 use Rattle.std.specs.Prelude.{Bool, ◌&&◌, ◌||◌, replicate}
-use Rattle.converter.specs.Chips.{on, fresh as fresh-chip}
+use Rattle.converter.specs.Chips.{on, fresh as fresh_chip}
 use Rattle.converter.specs.declared.chip.Event.TheVariants.{Tick}
-use Rattle.encoder.specs.Channels.{fresh as fresh-encoder}
+use Rattle.encoder.specs.Channels.{fresh as fresh_encoder}
 use Rattle.encoder.specs.Each.{each, with_step}
 use Rattle.guards.specs.Fuses.{fresh_fuse, sampled}
 use Rattle.guards.specs.Ports.{fresh_port}
@@ -19,13 +19,13 @@ fresh = record {
   fuse = fresh_fuse;
   port = fresh_port;
   outputs = silent;
-  chip0 = fresh-chip;
-  chip1 = fresh-chip;
+  chip0 = fresh_chip;
+  chip1 = fresh_chip;
   select0 = 0;
   select1 = 0;
   analog0 = replicate 4 0;
   analog1 = replicate 4 0;
-  encoders = replicate 8 fresh-encoder;
+  encoders = replicate 8 fresh_encoder;
 }
 
 -- a cause to hold the card: WD with ACT, EXT with EXT_ACT, or FUSE

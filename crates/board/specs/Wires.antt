@@ -1,7 +1,7 @@
 -- The wires of a card.
 use Rattle.std.specs.Prelude.{ℕ, ◌-◌, ◌%◌, cond, Some, None, Ok, Err, Option, Result, ◌==◌, nat_lt, slice_index_or, slice_set}
 use Rattle.bits.specs.Words.{bit}
-use Rattle.encoder.specs.Channels.{fresh, wired as levels-set}
+use Rattle.encoder.specs.Channels.{fresh, wired as levels_set}
 use Rattle.guards.specs.Fuses.{with_wire}
 use Rattle.guards.specs.Ports.{with_wires}
 use Rattle.guards.specs.declared.fuse.Fuse.{Fuse as FusePart}
@@ -67,7 +67,7 @@ with_analog b n code = cond (nat_lt n 4)
     })
 
 abbrev pub with_levels : Board → ℕ → ℕ → Board
-with_levels b n level = with_encoders b (slice_set b.encoders n (levels-set (slice_index_or b.encoders n fresh) (record { a = bit level 0; b = bit level 1 })))
+with_levels b n level = with_encoders b (slice_set b.encoders n (levels_set (slice_index_or b.encoders n fresh) (record { a = bit level 0; b = bit level 1 })))
 
 -- a level that is too wide for its wire is refused
 abbrev pub wired : Board → Wire → ℕ → Result Board Refusal

@@ -11,7 +11,7 @@ use Rattle.encoder.specs.declared.channel.Encoder.{Encoder as Channel}
 use Rattle.guards.specs.Fuses.{cleared_fuse}
 use Rattle.guards.specs.Ports.{with_latch, with_direction}
 use Rattle.guards.specs.Senses.{with_active, cleared_fall}
-use Rattle.guards.specs.Watchdogs.{with_preload, cleared_rise, controlled as set-watchdog}
+use Rattle.guards.specs.Watchdogs.{with_preload, cleared_rise, controlled as set_watchdog}
 use Rattle.guards.specs.declared.port.Port.{Port}
 use Rattle.guards.specs.declared.watchdog.Watchdog.{Watchdog}
 use Rattle.outputs.specs.Channels.{updated, latched}
@@ -148,7 +148,7 @@ controlled b value = record {
 
 -- CCT: 8 EN, 12 LD, 14 ACT, 15 SEL
 abbrev pub guarded : Board → ℕ → Board
-guarded b value = with_watchdog b (set-watchdog b.watchdog (bit value 8) (bit value 12) (bit value 14) (bit value 15))
+guarded b value = with_watchdog b (set_watchdog b.watchdog (bit value 8) (bit value 12) (bit value 14) (bit value 15))
 
 abbrev pub moded : Board → ℕ → Board
 moded b value = with_outputs b (record { latches = b.outputs.latches; codes = b.outputs.codes; modes = modes_of value })

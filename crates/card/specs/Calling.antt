@@ -7,7 +7,7 @@ use Rattle.std.proofs.lemmas.Bool.Decides.{nat_tests}
 use Rattle.bits.specs.Words.{bit, weight}
 use Rattle.converter.specs.Chips.{moved_on}
 use Rattle.converter.specs.declared.chip.Chip.{Chip}
-use Rattle.encoder.specs.Channels.{fresh, wired as levels-set}
+use Rattle.encoder.specs.Channels.{fresh, wired as levels_set}
 use Rattle.encoder.specs.Each.{gathered_by}
 use Rattle.encoder.specs.declared.channel.Encoder.{Encoder as Channel}
 use Rattle.board.specs.Boards.{held}
@@ -198,8 +198,8 @@ gathered_set base f (x ∷ xs) (suc n) e same = ap (λ v. weight (f x) + base * 
 
 levels_told : (b : Board) (n level : ℕ) → interrupts (with_levels b n level) ≡ interrupts b
 levels_told b n level =
-    let wraps = gathered_set 2 (λ (e : Channel). e.wrapped) b.encoders n (levels-set (slice_index_or b.encoders n fresh) (record { a = bit level 0; b = bit level 1 })) refl in
-    let losts = gathered_set 2 (λ (e : Channel). e.lost) b.encoders n (levels-set (slice_index_or b.encoders n fresh) (record { a = bit level 0; b = bit level 1 })) refl in
+    let wraps = gathered_set 2 (λ (e : Channel). e.wrapped) b.encoders n (levels_set (slice_index_or b.encoders n fresh) (record { a = bit level 0; b = bit level 1 })) refl in
+    let losts = gathered_set 2 (λ (e : Channel). e.lost) b.encoders n (levels_set (slice_index_or b.encoders n fresh) (record { a = bit level 0; b = bit level 1 })) refl in
     omega (arith, wraps, losts)
 
 analog_seen : (b : Board) (n code : ℕ) → quiet b ≡ true → seen (hold (with_analog b n code)) ≡ seen b

@@ -17,7 +17,7 @@ use Rattle.board.specs.declared.register.Register.{Register}
 use Rattle.board.specs.declared.register.Register.TheVariants.{InterruptEnable, InterruptStatus, Control, Status, Preload, WatchdogControl, Digital, Direction, Results, Codes, Update, Modes, EncoderModes, EncoderCommand, Encoder}
 use Rattle.board.specs.declared.wires.Wire.{Wire}
 use Rattle.guards.specs.Ports.{with_direction}
-use Rattle.guards.specs.Watchdogs.{with_preload, controlled as set-watchdog}
+use Rattle.guards.specs.Watchdogs.{with_preload, controlled as set_watchdog}
 use Rattle.outputs.specs.Channels.{hushed, silent, silent_hushed, volts}
 use Rattle.card.specs.declared.whole.Card.{Card}
 use Rattle.card.specs.Facts.{line, seen}
@@ -65,7 +65,7 @@ wire_board b (Some w) level = wired b w level
 
 -- arming writes EN, LD, ACT and SEL as 1
 abbrev pub armed_board : Board → Board
-armed_board b = with_watchdog b (set-watchdog b.watchdog true true true true)
+armed_board b = with_watchdog b (set_watchdog b.watchdog true true true true)
 
 abbrev pub called : Card → Call → Card
 called c (call.Read register) = became c (read_board c.board (numbered register))

@@ -10,7 +10,7 @@ use Rattle.station.specs.declared.call.Call.TheVariants.{Read, Write, Wire, Volt
 use Rattle.station.specs.declared.facts.Facts.{Facts}
 use Rattle.station.specs.declared.refusal.Refusal.{Refusal}
 use Rattle.station.specs.declared.refusal.Refusal.TheVariants.{NoSuch, NotAllowed}
-use Rattle.station.specs.Rules.{Rules, Sound, Ticks, Touches, Does, heard, with_stop as with-stop-fact}
+use Rattle.station.specs.Rules.{Rules, Sound, Ticks, Touches, Does, heard, with_stop as with_stop_fact}
 use Rattle.drive.specs.declared.motor.Drive.{Drive}
 use Rattle.drive.specs.declared.state.State.{State}
 use Rattle.drive.specs.declared.register.Register.{Register}
@@ -83,7 +83,7 @@ still_rests : (latch : Bool) (z : ℤ) → cond latch (still z) true ≡ true �
 still_rests true z rests = sym rests
 still_rests false z rests = refl
 
-stop_set : (d : Drive) (level : Bool) → seen (settled (with_stop d.state level)).state ≡ with-stop-fact (seen d.state) level
+stop_set : (d : Drive) (level : Bool) → seen (settled (with_stop d.state level)).state ≡ with_stop_fact (seen d.state) level
 unfolding settled
 stop_set d level =
     ap (λ (r : Bool). let f = seen d.state in record { held = f.held; rest = r; passes = f.passes; line = f.line; ready = f.ready; due = f.due; stop = level; pending = f.pending })
@@ -93,13 +93,13 @@ bit_level : (level : ℕ) → nat_lt level 2 ≡ true → (level == 1) ≡ nat_l
 bit_level level h = grind (arith, nat_tests)
 
 flag_here : (d : Drive) (level : ℕ) (small : Bool) → nat_lt level 2 ≡ small → is_ok (after {B = Unit {0}} (λ _. tt) (after (with_stop d.state) (cond small (Ok (level == 1)) (Err NotAllowed)))) ≡ true →
-    seen (became d (after (with_stop d.state) (cond small (Ok (level == 1)) (Err NotAllowed)))).state ≡ with-stop-fact (seen d.state) (nat_lt 0 level)
-flag_here d level true e ok = stop_set d (level == 1) ∙ ap (with-stop-fact (seen d.state)) (bit_level level e)
+    seen (became d (after (with_stop d.state) (cond small (Ok (level == 1)) (Err NotAllowed)))).state ≡ with_stop_fact (seen d.state) (nat_lt 0 level)
+flag_here d level true e ok = stop_set d (level == 1) ∙ ap (with_stop_fact (seen d.state)) (bit_level level e)
 flag_here d level false e ok = absurd (true≢false (sym ok))
 
 -- an accepted wire call sets the stop by wire 0 alone
 wire_here : (d : Drive) (there : Bool) (level : ℕ) → is_ok (after {B = Unit {0}} (λ _. tt) (cond there (after (with_stop d.state) (flag level)) (Err NoSuch))) ≡ true →
-    seen (became d (cond there (after (with_stop d.state) (flag level)) (Err NoSuch))).state ≡ cond there (with-stop-fact (seen d.state) (nat_lt 0 level)) (seen d.state)
+    seen (became d (cond there (after (with_stop d.state) (flag level)) (Err NoSuch))).state ≡ cond there (with_stop_fact (seen d.state) (nat_lt 0 level)) (seen d.state)
 wire_here d true level ok = flag_here d level (nat_lt level 2) refl ok
 wire_here d false level ok = refl
 

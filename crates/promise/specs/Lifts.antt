@@ -4,7 +4,7 @@ use Rattle.station.specs.Pair.{pair}
 use Rattle.station.specs.declared.joined.Joined.{Joined}
 use Rattle.card.specs.Cards.{card, fresh_card}
 use Rattle.card.specs.declared.whole.Card.{Card}
-use Rattle.drive.specs.Drives.{drive, fresh as fresh-drive}
+use Rattle.drive.specs.Drives.{drive, fresh as fresh_drive}
 use Rattle.drive.specs.declared.motor.Drive.{Drive}
 use Rattle.promise.specs.Whole.{StandsAt}
 
@@ -15,7 +15,7 @@ abbrev pub lift : Meaning Lift
 lift = pair card (pair drive card)
 
 abbrev pub fresh_lift : Lift
-fresh_lift = record { first = fresh_card; second = record { first = fresh-drive; second = fresh_card } }
+fresh_lift = record { first = fresh_card; second = record { first = fresh_drive; second = fresh_card } }
 
 -- which of its parts stands at which place
 pub record Placed : Type 0 where

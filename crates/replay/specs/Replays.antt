@@ -12,7 +12,7 @@ use Rattle.lines.specs.declared.command.Command.TheVariants as command
 use Rattle.lines.specs.declared.malformed.Malformed.{Malformed}
 use Rattle.lines.specs.declared.outcome.Outcome.{Outcome}
 use Rattle.lines.specs.declared.outcome.Outcome.TheVariants.{Value, Refused}
-use Rattle.lines.specs.Lines.{decoded, column, number as line-number}
+use Rattle.lines.specs.Lines.{decoded, column, number as line_number}
 use Rattle.lines.specs.Records.{record_of}
 
 -- the call of the bench that a command is
@@ -32,7 +32,7 @@ abbrev pub refused : Refusal → Outcome
 refused e = Refused (number e) (layer e) (detail e)
 
 abbrev pub malformed : Malformed → Outcome
-malformed e = Refused (line-number e) 1 (column e)
+malformed e = Refused (line_number e) 1 (column e)
 
 -- an answer as the outcome of a line: 0 where there is no value
 abbrev pub worded : Result ℕ Refusal → Outcome
