@@ -7,13 +7,14 @@ work=$(mktemp -d)
 trap 'rm -rf "$work"' EXIT
 mkdir -p "$work/crates/kicks/src"
 for crate in station falls bench; do cp -r "$top/crates/$crate" "$work/crates/"; done
-[ -d "$top/target" ] && cp -r "$top/target" "$work/target"
 printf '%s\n' 'station:' 'falls: station' 'bench: station falls' 'kicks: station falls bench' > "$work/crates.txt"
 cd "$work" || exit 2
 
 # A program that does a thing to a bench, with an arming that has been begun.
 program() {
     cat > crates/kicks/src/lib.rt <<PROGRAM
+#![tactic(auto)]
+
 use bench::Bench;
 use bench::arming::Armed;
 use bench::arming::Begun;
@@ -30,7 +31,7 @@ failed=0
 # The program is accepted, or is refused with these words.
 expect() {
     program "$3"
-    out=$(rt check kicks 2>&1)
+    out=$(cd crates/kicks && rt check 2>&1)
     status=$?
     if [ "$1" = accepted ]; then
         [ $status -eq 0 ]

@@ -2,7 +2,10 @@ use crate::lift::{Lift, new_lift};
 use crate::set_up;
 use bench::Bench;
 use bench::arming::{Armed, Begun};
+use bench::refusal::Refusal;
+use bench::ticket::Ticket;
 use station::Station;
+use std::process::Abort;
 use std::test::Fail;
 
 fn held(bench: &Bench<Lift>, place: u8) -> bool {
@@ -60,5 +63,37 @@ fn a_refused_arming_comes_back(rt: HostRuntime) -> Result<(), Fail> {
     };
     assert_eq!(rt; back.why.number(), 1);
     assert_eq!(rt; back.given.place(), 3);
+    Ok(())
+}
+
+// The number by which a take was refused.
+fn refusal(rt: &impl Abort, answer: Result<Ticket, Refusal>) -> u8 {
+    match answer {
+        Ok(_ticket) => panic!(rt; "taken"),
+        Err(why) => why.number(),
+    }
+}
+
+#[test]
+fn what_is_waited_for_is_taken_once_and_acknowledged(rt: HostRuntime) -> Result<(), Fail> {
+    let mut bench = set_up(new_lift());
+    // Both bits of the first chip are enabled, and its channels 0 and 2 are converted.
+    assert!(rt; bench.write(0, 0x00, 0x000c_0000).is_ok());
+    assert!(rt; bench.wire(0, 0x00, 0x2000).is_ok());
+    assert!(rt; bench.write(0, 0x02, 0x0540).is_ok());
+    assert_eq!(rt; bench.until(true, 1000).ok(), Some(160));
+    assert_eq!(rt; bench.until(true, 1000).ok(), Some(0));
+    let Ok(ticket) = bench.take(0) else {
+        return Err(Fail::new("a conversion has ended"));
+    };
+    assert_eq!(rt; ticket.bits(), 0x0004_0000);
+    assert_eq!(rt; refusal(&rt, bench.take(0)), 8);
+    match bench.acknowledge(ticket) {
+        Ok(()) => {}
+        Err(_back) => panic!(rt; "what was taken is acknowledged"),
+    }
+    assert_eq!(rt; refusal(&rt, bench.take(0)), 7);
+    assert_eq!(rt; refusal(&rt, bench.take(1)), 7);
+    assert_eq!(rt; refusal(&rt, bench.take(3)), 1);
     Ok(())
 }
