@@ -1,28 +1,31 @@
 #!/usr/bin/env bash
-# Shows that a watchdog cannot be kicked before it is armed: a program that does so is refused by the type check,
-# before any proof. The same program with the calls in their order is accepted.
+# Shows two misuses that the type check refuses, before any proof: a watchdog that is kicked before it is armed, and a
+# ticket that is let go. The same programs with the calls in their order are accepted.
 set -u
 top=$(cd "$(dirname "$0")/.." && pwd)
 work=$(mktemp -d)
 trap 'rm -rf "$work"' EXIT
-mkdir -p "$work/crates/kicks/src"
+mkdir -p "$work/crates/misuse/src"
 for crate in station falls bench; do cp -r "$top/crates/$crate" "$work/crates/"; done
-printf '%s\n' 'station:' 'falls: station' 'bench: station falls' 'kicks: station falls bench' > "$work/crates.txt"
+printf '%s\n' 'station:' 'falls: station' 'bench: station falls' 'misuse: station falls bench' > "$work/crates.txt"
 cd "$work" || exit 2
 
 # A program that does a thing to a bench, with an arming that has been begun.
 program() {
-    cat > crates/kicks/src/lib.rt <<PROGRAM
+    cat > crates/misuse/src/lib.rt <<PROGRAM
 #![tactic(auto)]
 
 use bench::Bench;
 use bench::arming::Armed;
 use bench::arming::Begun;
+use bench::ticket::Ticket;
 use station::Station;
 
-pub fn kicks<S: Station>(bench: &mut Bench<S>) {
+// A ticket that is left over is handed out.
+pub fn misuse<S: Station>(bench: &mut Bench<S>) -> Option<Ticket> {
     let begun = Begun::at(0);
     $1
+    None
 }
 PROGRAM
 }
@@ -31,7 +34,7 @@ failed=0
 # The program is accepted, or is refused with these words.
 expect() {
     program "$3"
-    out=$(cd crates/kicks && rt check 2>&1)
+    out=$(cd crates/misuse && rt check 2>&1)
     status=$?
     if [ "$1" = accepted ]; then
         [ $status -eq 0 ]
@@ -55,4 +58,11 @@ expect 'mismatched-types' 'one that is only preloaded cannot be kicked' \
     'if let Ok(preloaded) = bench.preload(begun, 100) { let _ = bench.kick(preloaded).is_ok(); }'
 expect 'private' 'an armed one cannot be made up' \
     'let _ = bench.kick(Armed { place: begun.place() }).is_ok();'
+
+expect accepted 'a ticket is taken and acknowledged' \
+    'if let Ok(ticket) = bench.take(0) { if let Err(back) = bench.acknowledge(ticket) { return Some(back.given); } }'
+expect 'linear-value-let-go' 'a ticket cannot be let go' \
+    'if let Ok(_ticket) = bench.take(0) {}'
+expect 'linear-value-let-go' 'nor can one that a refused acknowledgement hands back' \
+    'if let Ok(ticket) = bench.take(0) { let _ = bench.acknowledge(ticket).is_ok(); }'
 exit $failed
