@@ -1,8 +1,9 @@
 -- The encoders changed one after another.
-use Rattle.std.proofs.Common.{◌≡◌, ℕ, ◌+◌, ◌<◌, ◌≤◌, List, [], ◌∷◌, ◌++◌, length, get_or, take, drop, set, sym, refl, ap, ◌∙◌, subst, append_assoc, append-nil, arith}
+use Rattle.std.proofs.Common.{◌≡◌, ℕ, ◌+◌, ◌*◌, ◌<◌, ◌≤◌, Bool, List, [], ◌∷◌, ◌++◌, length, get_or, take, drop, set, sym, refl, ap, ◌∙◌, subst, append_assoc, append-nil, arith}
 use Rattle.std.proofs.lemmas.List.{take_more_set, take_all, at_drop_more, at_drop_all, drop-set-lt, set-get_or}
+use Rattle.bits.specs.Words.{weight}
 use Rattle.encoder.specs.declared.channel.Encoder.{Encoder}
-use Rattle.encoder.specs.Each.{each}
+use Rattle.encoder.specs.Each.{each, gathered, gathered_by}
 
 module _ (f : ℕ → Encoder → Encoder) where
   -- the encoders below i are done, and all are done once those that are left are
@@ -40,3 +41,14 @@ eight (x0 ∷ x1 ∷ x2 ∷ x3 ∷ x4 ∷ x5 ∷ []) d0 d1 d2 d3 d4 d5 d6 d7 n =
 eight (x0 ∷ x1 ∷ x2 ∷ x3 ∷ x4 ∷ x5 ∷ x6 ∷ []) d0 d1 d2 d3 d4 d5 d6 d7 n = absurd (omega arith)
 eight (x0 ∷ x1 ∷ x2 ∷ x3 ∷ x4 ∷ x5 ∷ x6 ∷ x7 ∷ []) d0 d1 d2 d3 d4 d5 d6 d7 n = refl
 eight (x0 ∷ x1 ∷ x2 ∷ x3 ∷ x4 ∷ x5 ∷ x6 ∷ x7 ∷ x8 ∷ xs) d0 d1 d2 d3 d4 d5 d6 d7 n = absurd (omega arith)
+
+-- the flags of eight encoders, bit by bit
+pub gathered_eight : (f : Encoder → Bool) (es : List Encoder) (d0 d1 d2 d3 d4 d5 d6 d7 : Encoder) → length es ≡ 8 →
+    gathered f es ≡ weight (f (get_or es 0 d0)) + 2 * weight (f (get_or es 1 d1)) + 4 * weight (f (get_or es 2 d2)) + 8 * weight (f (get_or es 3 d3))
+    + 16 * (weight (f (get_or es 4 d4)) + 2 * weight (f (get_or es 5 d5)) + 4 * weight (f (get_or es 6 d6)) + 8 * weight (f (get_or es 7 d7)))
+gathered_eight f es d0 d1 d2 d3 d4 d5 d6 d7 n = omega (arith, ap (gathered f) (eight es d0 d1 d2 d3 d4 d5 d6 d7 n))
+
+pub gathered_sixteen : (f : Encoder → Bool) (es : List Encoder) (d0 d1 d2 d3 d4 d5 d6 d7 : Encoder) → length es ≡ 8 →
+    gathered_by 16 f es ≡ weight (f (get_or es 0 d0)) + 0x10 * weight (f (get_or es 1 d1)) + 0x100 * weight (f (get_or es 2 d2)) + 0x1000 * weight (f (get_or es 3 d3))
+    + 0x10000 * (weight (f (get_or es 4 d4)) + 0x10 * weight (f (get_or es 5 d5)) + 0x100 * weight (f (get_or es 6 d6)) + 0x1000 * weight (f (get_or es 7 d7)))
+gathered_sixteen f es d0 d1 d2 d3 d4 d5 d6 d7 n = omega (arith, ap (gathered_by 16 f) (eight es d0 d1 d2 d3 d4 d5 d6 d7 n))

@@ -1,16 +1,14 @@
-use Rattle.std.proofs.Common.{ap, arith}
+use Rattle.std.proofs.Common.{arith}
 use Rattle.encoder.specs.declared.channel.Encoder.{Encoder}
-use Rattle.encoder.specs.Each.{gathered_by}
-use Rattle.encoder.proofs.Each.{eight}
+use Rattle.encoder.proofs.Each.{gathered_sixteen}
 use Rattle.encoder.proofs.eight.enables.Goals as goal
 
 pub returns : goal.returns
 returns c =
-    let all = eight c.args.encoders.now c.index-encoders-0.result c.index-encoders-1.result c.index-encoders-2.result c.index-encoders-3.result
-    c.index-encoders-4.result c.index-encoders-5.result c.index-encoders-6.result c.index-encoders-7.result (omega (arith, c.told-encoders)) in
     omega (
       arith,
-      ap (gathered_by 16 (λ (e : Encoder). e.enabled)) all,
+      gathered_sixteen (λ (e : Encoder). e.enabled) c.args.encoders.now c.index-encoders-0.result c.index-encoders-1.result c.index-encoders-2.result c.index-encoders-3.result
+          c.index-encoders-4.result c.index-encoders-5.result c.index-encoders-6.result c.index-encoders-7.result (omega (arith, c.told-encoders)),
       c.weight.ensures.value,
       c.weight-2.ensures.value,
       c.weight-3.ensures.value,
