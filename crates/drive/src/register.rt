@@ -13,10 +13,12 @@ pub enum Register {
     Fall,
 }
 
-impl Register {
-    pub fn numbered(number: u8) -> Result<Register, Refusal>
-        ensures { result ≡ numbered number }
-    {
+impl TryFrom<u8> for Register {
+    type Error = Refusal;
+
+    ghost try_from_gives = { λ number answer. answer ≡ numbered number };
+
+    fn try_from(number: u8) -> Result<Register, Refusal> {
         match number {
             0 => Ok(Register::Setpoint),
             1 => Ok(Register::Listen),

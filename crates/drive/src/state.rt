@@ -34,11 +34,8 @@ fn flag(value: u32) -> Result<bool, Refusal>
 fn word(value: u32) -> Result<i16, Refusal>
     ensures { result ≡ word value }
 {
-    if value < 0x10000 {
-        Ok((value as u16).cast_signed())
-    } else {
-        Err(Refusal::NotAllowed)
-    }
+    let bits = u16::try_from(value).map_err(|_| Refusal::NotAllowed)?;
+    Ok(bits.cast_signed())
 }
 
 impl State {
@@ -76,7 +73,7 @@ impl State {
     pub fn read(self, register: u8) -> Result<u32, Refusal>
         ensures { result ≡ fetched self (numbered register) }
     {
-        match Register::numbered(register)? {
+        match Register::try_from(register)? {
             Register::Setpoint => Ok(u32::from(self.setpoint.cast_unsigned())),
             Register::Listen => Ok(u32::from(self.listen)),
             Register::Fall => Ok(u32::from(self.latch)),
@@ -100,7 +97,7 @@ impl State {
     pub fn written(self, register: u8, value: u32) -> Result<State, Refusal>
         ensures { result ≡ written self (numbered register) value }
     {
-        match Register::numbered(register)? {
+        match Register::try_from(register)? {
             Register::Setpoint => {
                 let setpoint = word(value)?;
                 Ok(State { setpoint, ..self })

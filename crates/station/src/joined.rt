@@ -1,8 +1,10 @@
+ghost use Rattle.station.specs.Members.{Lies};
 ghost use Rattle.station.specs.Pair.{pair};
 ghost use Rattle.station.specs.Pairs.{pair_rules};
 
 use crate::Station;
 use crate::facts::Facts;
+use crate::member::Member;
 use crate::place::Place;
 use crate::refusal::Refusal;
 
@@ -12,6 +14,20 @@ use crate::refusal::Refusal;
 pub struct Joined<A, B> {
     pub first: A,
     pub second: B,
+}
+
+impl<A: Station, B: Station> Joined<A, B> {
+    // The member that a place of the pair belongs to. The places of the second follow those of the first.
+    fn member(&self, place: Place) -> Member
+        ensures { Lies (A.Station.meaning.size self.now.first) place.number result }
+    {
+        let here = self.first.places();
+        if place.number < here {
+            Member::First(place)
+        } else {
+            Member::Second(place.after(here))
+        }
+    }
 }
 
 impl<A: Station, B: Station> Station for Joined<A, B> {
@@ -24,11 +40,9 @@ impl<A: Station, B: Station> Station for Joined<A, B> {
     }
 
     fn facts(&self, place: Place) -> Facts {
-        let here = self.first.places();
-        if place.number < here {
-            self.first.facts(place)
-        } else {
-            self.second.facts(place.after(here))
+        match self.member(place) {
+            Member::First(at) => self.first.facts(at),
+            Member::Second(at) => self.second.facts(at),
         }
     }
 
@@ -44,74 +58,58 @@ impl<A: Station, B: Station> Station for Joined<A, B> {
     }
 
     fn read(&mut self, place: Place, register: u8) -> Result<u32, Refusal> {
-        let here = self.first.places();
-        if place.number < here {
-            self.first.read(place, register)
-        } else {
-            self.second.read(place.after(here), register)
+        match self.member(place) {
+            Member::First(at) => self.first.read(at, register),
+            Member::Second(at) => self.second.read(at, register),
         }
     }
 
     fn write(&mut self, place: Place, register: u8, value: u32) -> Result<(), Refusal> {
-        let here = self.first.places();
-        if place.number < here {
-            self.first.write(place, register, value)
-        } else {
-            self.second.write(place.after(here), register, value)
+        match self.member(place) {
+            Member::First(at) => self.first.write(at, register, value),
+            Member::Second(at) => self.second.write(at, register, value),
         }
     }
 
     fn wire(&mut self, place: Place, wire: u8, level: u32) -> Result<(), Refusal> {
-        let here = self.first.places();
-        if place.number < here {
-            self.first.wire(place, wire, level)
-        } else {
-            self.second.wire(place.after(here), wire, level)
+        match self.member(place) {
+            Member::First(at) => self.first.wire(at, wire, level),
+            Member::Second(at) => self.second.wire(at, wire, level),
         }
     }
 
     fn volts(&self, place: Place, channel: u8) -> Result<i32, Refusal> {
-        let here = self.first.places();
-        if place.number < here {
-            self.first.volts(place, channel)
-        } else {
-            self.second.volts(place.after(here), channel)
+        match self.member(place) {
+            Member::First(at) => self.first.volts(at, channel),
+            Member::Second(at) => self.second.volts(at, channel),
         }
     }
 
     fn acknowledge(&mut self, place: Place, bits: u32) {
-        let here = self.first.places();
-        if place.number < here {
-            self.first.acknowledge(place, bits);
-        } else {
-            self.second.acknowledge(place.after(here), bits);
+        match self.member(place) {
+            Member::First(at) => self.first.acknowledge(at, bits),
+            Member::Second(at) => self.second.acknowledge(at, bits),
         }
     }
 
     fn preload(&mut self, place: Place, ticks: u32) -> Result<(), Refusal> {
-        let here = self.first.places();
-        if place.number < here {
-            self.first.preload(place, ticks)
-        } else {
-            self.second.preload(place.after(here), ticks)
+        match self.member(place) {
+            Member::First(at) => self.first.preload(at, ticks),
+            Member::Second(at) => self.second.preload(at, ticks),
         }
     }
 
     fn arm(&mut self, place: Place) -> Result<(), Refusal> {
-        let here = self.first.places();
-        if place.number < here {
-            self.first.arm(place)
-        } else {
-            self.second.arm(place.after(here))
+        match self.member(place) {
+            Member::First(at) => self.first.arm(at),
+            Member::Second(at) => self.second.arm(at),
         }
     }
 
     fn kick(&mut self, place: Place) -> Result<(), Refusal> {
-        let here = self.first.places();
-        if place.number < here {
-            self.first.kick(place)
-        } else {
-            self.second.kick(place.after(here))
+        match self.member(place) {
+            Member::First(at) => self.first.kick(at),
+            Member::Second(at) => self.second.kick(at),
         }
     }
 }

@@ -14,6 +14,7 @@ use refusal::Refusal;
 pub mod call;
 pub mod facts;
 pub mod joined;
+pub mod member;
 pub mod place;
 pub mod refusal;
 
