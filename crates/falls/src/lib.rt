@@ -27,14 +27,11 @@ fn waiting(facts: Facts, low: bool) -> Option<u128>
     ensures bound { AtMost result (2 ^ 64) }
 {
     if facts.held {
-        return Some(0);
-    }
-    if facts.stop | low {
-        return Some(1);
-    }
-    match facts.due {
-        Some(ticks) => Some(u128::from(ticks)),
-        None => None,
+        Some(0)
+    } else if facts.stop | low {
+        Some(1)
+    } else {
+        facts.due.map(u128::from)
     }
 }
 
@@ -44,8 +41,7 @@ fn earlier(a: Option<u128>, b: Option<u128>) -> Option<u128>
 {
     match (a, b) {
         (Some(a), Some(b)) => Some(a.min(b)),
-        (Some(a), None) => Some(a),
-        (None, b) => b,
+        _ => a.or(b),
     }
 }
 
@@ -53,10 +49,7 @@ fn one_later(tick: Option<u128>) -> Option<u128>
     requires { AtMost tick (2 ^ 65) }
     ensures { result ≡ one_later tick }
 {
-    match tick {
-        Some(n) => Some(n + 1),
-        None => None,
-    }
+    tick.map(|n| n + 1)
 }
 
 // The first addressed place of which nothing can be told.
