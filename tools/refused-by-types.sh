@@ -16,14 +16,13 @@ program() {
 #![tactic(auto)]
 
 use bench::Bench;
-use bench::arming::Armed;
-use bench::arming::Begun;
+use bench::arming::Arming;
 use bench::ticket::Ticket;
 use station::Station;
 
 // A ticket that is left over is handed out.
 pub fn misuse<S: Station>(bench: &mut Bench<S>) -> Option<Ticket> {
-    let begun = Begun::at(0);
+    let begun = Arming::begin(0);
     $1
     None
 }
@@ -57,7 +56,7 @@ expect 'mismatched-types' 'one that is only begun cannot be kicked' \
 expect 'mismatched-types' 'one that is only preloaded cannot be kicked' \
     'if let Ok(preloaded) = bench.preload(begun, 100) { let _ = bench.kick(preloaded).is_ok(); }'
 expect 'private' 'an armed one cannot be made up' \
-    'let _ = bench.kick(Armed { place: begun.place() }).is_ok();'
+    'let _ = bench.kick(Arming { place: begun.place() }).is_ok();'
 
 expect accepted 'a ticket is taken and acknowledged' \
     'if let Ok(ticket) = bench.take(0) { if let Err(back) = bench.acknowledge(ticket) { return Some(back.given); } }'

@@ -8,6 +8,7 @@ use Rattle.station.specs.declared.refusal.Refusal.{Refusal as Turned}
 use Rattle.falls.specs.Forecasts.{foretold, unsettled, told as forecast}
 use Rattle.falls.specs.declared.forecast.Forecast.{Forecast}
 use Rattle.bench.specs.declared.Bench.{Bench}
+use Rattle.bench.specs.declared.arming.Arming.{Arming}
 use Rattle.bench.specs.declared.refusal.Back.{Back}
 use Rattle.bench.specs.declared.refusal.Refusal.{Refusal}
 use Rattle.bench.specs.declared.refusal.Refusal.TheVariants.{NoPlace, Station, TooMany, NothingPending, ServiceOpen, NoService}
@@ -114,6 +115,10 @@ performed m b (Kick place) = after_at m b place call.Kick
 abbrev pub ticketed : ℕ → Result ℕ Refusal → Result Ticket Refusal
 ticketed place (Ok bits) = Ok (record { place = place; bits = bits })
 ticketed place (Err why) = Err why
+
+-- the next stage of an arming
+abbrev pub advanced : {A B : Type 0} → Arming A → Arming B
+advanced a = record { place = a.place; stage = record {} }
 
 -- what comes of something that is handed in: the next thing, or the refusal with what was given
 abbrev pub handed : {T U : Type 0} → T → U → Result (Unit {0}) Refusal → Result U (Back T)

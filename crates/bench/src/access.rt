@@ -11,10 +11,7 @@ use station::refusal::Refusal as Turned;
 pub(crate) fn told<T>(place: u8, answer: Result<T, Turned>) -> Result<T, Refusal>
     ensures { result ≡ told place answer }
 {
-    match answer {
-        Ok(value) => Ok(value),
-        Err(why) => Err(Refusal::Station { place, why }),
-    }
+    answer.map_err(|why| Refusal::Station { place, why })
 }
 
 impl<S: Station> Bench<S> {

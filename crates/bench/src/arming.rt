@@ -1,81 +1,75 @@
 ghost use Rattle.std.specs.Prelude.{◌≡◌};
 ghost use Rattle.bench.specs.declared.request.Request.TheVariants.{Preload, Arm, Kick};
-ghost use Rattle.bench.specs.Calls.{reply, performed, handed};
+ghost use Rattle.bench.specs.Calls.{reply, performed, handed, advanced};
 
 use crate::Bench;
 use crate::access::told;
 use crate::refusal::{Back, Refusal};
 use station::Station;
+use std::marker::PhantomData;
+
+// How far an arming has come.
+#[derive(Drop)]
+pub struct Begun;
+
+#[derive(Drop)]
+pub struct Preloaded;
+
+#[derive(Drop)]
+pub struct Armed;
 
 // The arming of the watchdog at a place: begun, then preloaded, then armed. Only an armed one can be kicked.
 #[derive(Drop)]
-pub struct Begun {
+pub struct Arming<Stage> {
     place: u8,
+    stage: PhantomData<Stage>,
 }
 
-#[derive(Drop)]
-pub struct Preloaded {
-    place: u8,
-}
-
-#[derive(Drop)]
-pub struct Armed {
-    place: u8,
-}
-
-impl Begun {
+impl Arming<Begun> {
     // Begins an arming. Whether there is such a place is asked by the calls that follow.
-    pub fn at(place: u8) -> Begun
-        ensures { result ≡ record { place = place } }
+    pub fn begin(place: u8) -> Arming<Begun>
+        ensures { result.place ≡ place }
     {
-        Begun { place }
-    }
-
-    pub fn place(&self) -> u8
-        ensures { result ≡ self.now.place }
-    {
-        self.place
-    }
-
-    pub(crate) fn preloaded(self) -> Preloaded
-        ensures { result ≡ record { place = self.place } }
-    {
-        Preloaded { place: self.place }
+        Arming {
+            place,
+            stage: PhantomData,
+        }
     }
 }
 
-impl Preloaded {
+impl<Stage> Arming<Stage> {
     pub fn place(&self) -> u8
         ensures { result ≡ self.now.place }
     {
         self.place
     }
 
-    pub(crate) fn armed(self) -> Armed
-        ensures { result ≡ record { place = self.place } }
+    // The next stage, where its call was carried out; else the refusal, and the arming as it was.
+    fn after<Next>(self, answer: Result<(), Refusal>) -> Result<Arming<Next>, Back<Arming<Stage>>>
+        ensures { result ≡ handed self (advanced self) answer }
     {
-        Armed { place: self.place }
-    }
-}
-
-impl Armed {
-    pub fn place(&self) -> u8
-        ensures { result ≡ self.now.place }
-    {
-        self.place
+        match answer {
+            Ok(()) => Ok(Arming {
+                place: self.place,
+                stage: PhantomData,
+            }),
+            Err(why) => Err(Back { why, given: self }),
+        }
     }
 }
 
 impl<S: Station> Bench<S> {
     // Puts a number of ticks into the preload.
-    pub fn preload(&mut self, begun: Begun, ticks: u32) -> Result<Preloaded, Back<Begun>>
-        ensures value { result ≡ handed begun (record { place = begun.place }) (reply S.Station.meaning self.old (Preload begun.place ticks)) }
+    pub fn preload(
+        &mut self,
+        begun: Arming<Begun>,
+        ticks: u32,
+    ) -> Result<Arming<Preloaded>, Back<Arming<Begun>>>
+        ensures value { result ≡ handed begun (advanced begun) (reply S.Station.meaning self.old (Preload begun.place ticks)) }
         ensures after { self.new ≡ performed S.Station.meaning self.old (Preload begun.place ticks) }
     {
-        match self.preload_at(begun.place, ticks) {
-            Ok(()) => Ok(begun.preloaded()),
-            Err(why) => Err(Back { why, given: begun }),
-        }
+        let answer = self.preload_at(begun.place, ticks);
+        begun.after(answer)
     }
 
     fn preload_at(&mut self, place: u8, ticks: u32) -> Result<(), Refusal>
@@ -87,17 +81,15 @@ impl<S: Station> Bench<S> {
     }
 
     // Enables the watchdog, loads it, and lets its rise hold the place and tell the line.
-    pub fn arm(&mut self, preloaded: Preloaded) -> Result<Armed, Back<Preloaded>>
-        ensures value { result ≡ handed preloaded (record { place = preloaded.place }) (reply S.Station.meaning self.old (Arm preloaded.place)) }
+    pub fn arm(
+        &mut self,
+        preloaded: Arming<Preloaded>,
+    ) -> Result<Arming<Armed>, Back<Arming<Preloaded>>>
+        ensures value { result ≡ handed preloaded (advanced preloaded) (reply S.Station.meaning self.old (Arm preloaded.place)) }
         ensures after { self.new ≡ performed S.Station.meaning self.old (Arm preloaded.place) }
     {
-        match self.arm_at(preloaded.place) {
-            Ok(()) => Ok(preloaded.armed()),
-            Err(why) => Err(Back {
-                why,
-                given: preloaded,
-            }),
-        }
+        let answer = self.arm_at(preloaded.place);
+        preloaded.after(answer)
     }
 
     fn arm_at(&mut self, place: u8) -> Result<(), Refusal>
@@ -109,14 +101,12 @@ impl<S: Station> Bench<S> {
     }
 
     // Loads an armed watchdog anew, as arming does.
-    pub fn kick(&mut self, armed: Armed) -> Result<Armed, Back<Armed>>
-        ensures value { result ≡ handed armed (record { place = armed.place }) (reply S.Station.meaning self.old (Kick armed.place)) }
+    pub fn kick(&mut self, armed: Arming<Armed>) -> Result<Arming<Armed>, Back<Arming<Armed>>>
+        ensures value { result ≡ handed armed (advanced armed) (reply S.Station.meaning self.old (Kick armed.place)) }
         ensures after { self.new ≡ performed S.Station.meaning self.old (Kick armed.place) }
     {
-        match self.kick_at(armed.place) {
-            Ok(()) => Ok(armed),
-            Err(why) => Err(Back { why, given: armed }),
-        }
+        let answer = self.kick_at(armed.place);
+        armed.after(answer)
     }
 
     fn kick_at(&mut self, place: u8) -> Result<(), Refusal>

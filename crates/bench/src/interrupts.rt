@@ -32,6 +32,7 @@ impl<S: Station> Bench<S> {
     {
         let place = ticket.place();
         let bits = ticket.bits();
+        // No `?`: a refusal hands the ticket back, and a closure that does so would take it in any case.
         let at = match self.at(place) {
             Ok(at) => at,
             Err(why) => return Err(Back { why, given: ticket }),

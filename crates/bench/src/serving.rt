@@ -23,10 +23,7 @@ impl Services {
     pub(crate) fn has(&self, place: Place, bits: u32) -> bool
         ensures { result ≡ same_service (service self.now place.number) bits }
     {
-        match self.at(place) {
-            Some(stands) => stands == bits,
-            None => false,
-        }
+        self.at(place) == Some(bits)
     }
 
     // Opens or ends the service of a place.

@@ -1,7 +1,7 @@
 use crate::lift::{Lift, new_lift};
 use crate::set_up;
 use bench::Bench;
-use bench::arming::{Armed, Begun};
+use bench::arming::{Armed, Arming};
 use bench::refusal::Refusal;
 use bench::ticket::Ticket;
 use station::Station;
@@ -16,8 +16,8 @@ fn held(bench: &Bench<Lift>, place: u8) -> bool {
 }
 
 // The watchdog of the first card armed with a preload of 2, so that it rises at tick 3.
-fn armed(bench: &mut Bench<Lift>) -> Result<Armed, Fail> {
-    let Ok(preloaded) = bench.preload(Begun::at(0), 2) else {
+fn armed(bench: &mut Bench<Lift>) -> Result<Arming<Armed>, Fail> {
+    let Ok(preloaded) = bench.preload(Arming::begin(0), 2) else {
         return Err(Fail::new("a card takes a preload"));
     };
     match bench.arm(preloaded) {
@@ -53,12 +53,12 @@ fn a_kick_begins_the_count_again(rt: HostRuntime) -> Result<(), Fail> {
 #[test]
 fn a_refused_arming_comes_back(rt: HostRuntime) -> Result<(), Fail> {
     let mut bench = set_up(new_lift());
-    let Err(back) = bench.preload(Begun::at(1), 2) else {
+    let Err(back) = bench.preload(Arming::begin(1), 2) else {
         return Err(Fail::new("a drive has no watchdog"));
     };
     assert_eq!(rt; back.why.number(), 2);
     assert_eq!(rt; back.given.place(), 1);
-    let Err(back) = bench.preload(Begun::at(3), 2) else {
+    let Err(back) = bench.preload(Arming::begin(3), 2) else {
         return Err(Fail::new("there is no place 3"));
     };
     assert_eq!(rt; back.why.number(), 1);
