@@ -23,10 +23,10 @@ abbrev pub fresh : {S : Type 0} → S → Bench S
 fresh s = record { chain = s; services = no_service }
 
 abbrev pub with_chain : {S : Type 0} → Bench S → S → Bench S
-with_chain b s = record { chain = s; services = b.services }
+with_chain b s = record b { chain = s }
 
 abbrev pub serving : {S : Type 0} → Bench S → ℕ → Option ℕ → Bench S
-serving b place o = record { chain = b.chain; services = with_service b.services place o }
+serving b place o = record b { services = with_service b.services place o }
 
 -- the number of places that have an address
 abbrev pub places : {S : Type 0} → Meaning S → Bench S → ℕ

@@ -11,29 +11,23 @@ abbrev pub fresh : Chip
 fresh = record { phase = Idle; number = 0; samples = replicate 4 0; results = replicate 4 0; next = 0; ended = false; done = false }
 
 abbrev with_phase : Chip → Phase → Chip
-with_phase c p = record { phase = p; number = c.number; samples = c.samples; results = c.results; next = c.next; ended = c.ended; done = c.done }
+with_phase c p = record c { phase = p }
 
 -- a start samples the selected channels and sets the read place to 0; old results stay. With none
 -- selected nothing is converted, and nothing is told
 abbrev pub started : Chip → ℕ → List ℕ → Chip
-started c mask wires = record {
+started c mask wires = record c {
   phase = cond (number mask == 0) Idle (Converting 0 80);
   number = number mask;
   samples = queue mask wires;
-  results = c.results;
   next = 0;
-  ended = c.ended;
-  done = c.done;
 }
 
 -- a channel ends: its result goes to its place, and the next one begins, or all are done
 abbrev pub ended_channel : Chip → ℕ → Chip
-ended_channel c place = record {
+ended_channel c place = record c {
   phase = cond (nat_lt (place + 1) c.number) (Converting (place + 1) 80) Idle;
-  number = c.number;
-  samples = c.samples;
   results = slice_set c.results place (slice_index c.samples place);
-  next = c.next;
   ended = true;
   done = c.done || not (nat_lt (place + 1) c.number);
 }
@@ -56,23 +50,7 @@ read_of c = cond (c.number == 0) 0 (extended (slice_index c.results (c.next % 4)
 
 -- and moves on, round the number of selected channels
 abbrev pub moved_on : Chip → Chip
-moved_on c = cond (c.number == 0) c (record {
-  phase = c.phase;
-  number = c.number;
-  samples = c.samples;
-  results = c.results;
-  next = (c.next % 4 + 1) % c.number;
-  ended = c.ended;
-  done = c.done;
-})
+moved_on c = cond (c.number == 0) c (record c { next = (c.next % 4 + 1) % c.number })
 
 abbrev pub cleared : Chip → Bool → Bool → Chip
-cleared c ended done = record {
-  phase = c.phase;
-  number = c.number;
-  samples = c.samples;
-  results = c.results;
-  next = c.next;
-  ended = c.ended && not ended;
-  done = c.done && not done;
-}
+cleared c ended done = record c { ended = c.ended && not ended; done = c.done && not done }

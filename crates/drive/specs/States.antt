@@ -32,31 +32,28 @@ seen s = record {
 
 -- a tick: the latch is set by the stop, or by a fall of the line where the drive listens
 abbrev pub passed : State → Bool → State
-passed s hears = record {
-  setpoint = s.setpoint;
-  listen = s.listen;
+passed s hears = record s {
   latch = s.latch || (s.stop || (s.listen && (s.heard && not hears)));
   heard = hears;
   stopped = s.stop;
-  stop = s.stop;
 }
 
 abbrev pub with_setpoint : State → ℤ → State
-with_setpoint s z = record { setpoint = z; listen = s.listen; latch = s.latch; heard = s.heard; stopped = s.stopped; stop = s.stop }
+with_setpoint s z = record s { setpoint = z }
 
 -- a set latch puts the set point to 0
 abbrev pub halted : State → State
 halted s = with_setpoint s (cond s.latch (pos 0) s.setpoint)
 
 abbrev pub with_listen : State → Bool → State
-with_listen s b = record { setpoint = s.setpoint; listen = b; latch = s.latch; heard = s.heard; stopped = s.stopped; stop = s.stop }
+with_listen s b = record s { listen = b }
 
 -- a 1 clears the latch, unless stop was last sampled
 abbrev pub cleared : State → Bool → State
-cleared s one = record { setpoint = s.setpoint; listen = s.listen; latch = s.latch && (not one || s.stopped); heard = s.heard; stopped = s.stopped; stop = s.stop }
+cleared s one = record s { latch = s.latch && (not one || s.stopped) }
 
 abbrev pub with_stop : State → Bool → State
-with_stop s b = record { setpoint = s.setpoint; listen = s.listen; latch = s.latch; heard = s.heard; stopped = s.stopped; stop = b }
+with_stop s b = record s { stop = b }
 
 abbrev pub after : {A B : Type 0} → (A → B) → Result A Refusal → Result B Refusal
 after f (Ok a) = Ok (f a)

@@ -7,11 +7,11 @@ fresh_fuse = record { wire = false; sample = false; blown = false }
 
 -- every tick with the fuse blown sets the flag
 abbrev pub sampled : Fuse → Fuse
-sampled f = record { wire = f.wire; sample = f.wire; blown = f.blown || f.wire }
+sampled f = record f { sample = f.wire; blown = f.blown || f.wire }
 
 abbrev pub with_wire : Fuse → Bool → Fuse
-with_wire f wire = record { wire = wire; sample = f.sample; blown = f.blown }
+with_wire f wire = record f { wire = wire }
 
 -- it cannot be cleared while the last sample was blown
 abbrev pub cleared_fuse : Fuse → Bool → Fuse
-cleared_fuse f clear = record { wire = f.wire; sample = f.sample; blown = f.blown && (not clear || f.sample) }
+cleared_fuse f clear = record f { blown = f.blown && (not clear || f.sample) }

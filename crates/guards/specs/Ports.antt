@@ -10,10 +10,10 @@ abbrev pub seen : Port → ℕ
 seen p = bit_or (bit_and p.wires (0xffffffff - p.direction)) (bit_and p.latch p.direction)
 
 abbrev pub with_latch : Port → ℕ → Port
-with_latch p latch = record { latch = latch; direction = p.direction; wires = p.wires }
+with_latch p latch = record p { latch = latch }
 
 abbrev pub with_direction : Port → ℕ → Port
-with_direction p direction = record { latch = p.latch; direction = direction; wires = p.wires }
+with_direction p direction = record p { direction = direction }
 
 abbrev pub with_wires : Port → ℕ → Port
-with_wires p wires = record { latch = p.latch; direction = p.direction; wires = wires }
+with_wires p wires = record p { wires = wires }

@@ -7,15 +7,7 @@ fresh_watchdog = record { count = 0; preload = 0; enabled = false; active = fals
 
 -- the count and the output, and with them the rise
 abbrev turned : Watchdog → ℕ → Bool → Bool → Watchdog
-turned w n output rose = record {
-  count = n;
-  preload = w.preload;
-  enabled = w.enabled;
-  active = w.active;
-  selected = w.selected;
-  output = output;
-  rose = rose;
-}
+turned w n output rose = record w { count = n; output = output; rose = rose }
 
 -- a tick: at 0 an enabled watchdog toggles its output and reloads, else it goes down by one; a rise is kept
 abbrev pub ran : Watchdog → Watchdog
@@ -24,15 +16,7 @@ ran w = cond w.enabled
     w
 
 abbrev pub with_preload : Watchdog → ℕ → Watchdog
-with_preload w p = record {
-  count = w.count;
-  preload = p;
-  enabled = w.enabled;
-  active = w.active;
-  selected = w.selected;
-  output = w.output;
-  rose = w.rose;
-}
+with_preload w p = record w { preload = p }
 
 -- a load puts the output low and reloads
 abbrev pub loaded : Watchdog → Bool → Watchdog
@@ -40,15 +24,7 @@ loaded w load = cond load (turned w w.preload false w.rose) w
 
 -- the control bits are stored, then a load is made
 abbrev pub controlled : Watchdog → (enabled load active selected : Bool) → Watchdog
-controlled w enabled load active selected = loaded (record {
-  count = w.count;
-  preload = w.preload;
-  enabled = enabled;
-  active = active;
-  selected = selected;
-  output = w.output;
-  rose = w.rose;
-}) load
+controlled w enabled load active selected = loaded (record w { enabled = enabled; active = active; selected = selected }) load
 
 abbrev pub cleared_rise : Watchdog → Bool → Watchdog
 cleared_rise w clear = turned w w.count w.output (w.rose && not clear)

@@ -12,8 +12,8 @@ pair a b = record {
   sends = λ s. b.sends s.second;
   ticked = λ s told. record { first = a.ticked s.first told; second = b.ticked s.second (a.sends s.first) };
   called = λ s p c. cond (nat_lt p (a.size s.first))
-      (record { first = a.called s.first p c; second = s.second })
-      (record { first = s.first; second = b.called s.second (p - a.size s.first) c });
+      (record s { first = a.called s.first p c })
+      (record s { second = b.called s.second (p - a.size s.first) c });
   answer = λ s p c. cond (nat_lt p (a.size s.first)) (a.answer s.first p c) (b.answer s.second (p - a.size s.first) c);
   guards = λ s p c. cond (nat_lt p (a.size s.first)) (a.guards s.first p c) (b.guards s.second (p - a.size s.first) c);
 }

@@ -54,16 +54,7 @@ pub record Touches (guard : Bool) (old new : Facts) : Type 0 where
   pub else_kept : guard ≡ false → Kept old new
 
 abbrev pub with_stop : Facts → Bool → Facts
-with_stop f level = record {
-  held = f.held;
-  rest = f.rest;
-  passes = f.passes;
-  line = f.line;
-  ready = f.ready;
-  due = f.due;
-  stop = level;
-  pending = f.pending;
-}
+with_stop f level = record f { stop = level }
 
 -- what an accepted call does to the facts of its own place, which has a stop wire
 abbrev pub Does : Call → (guard : Bool) → (stop_wire : ℕ) → (old new : Facts) → Type 0
