@@ -1,6 +1,7 @@
 -- All parts of a card, and one tick of them.
 use Rattle.std.specs.Prelude.{Bool, ◌&&◌, ◌||◌, replicate}
-use Rattle.converter.specs.Chips.{on, fresh as fresh_chip}
+use Rattle.converter.specs.Chips.{on}
+use Rattle.converter.specs.Inputs.{fresh_inputs}
 use Rattle.converter.specs.declared.chip.Event.TheVariants.{Tick}
 use Rattle.encoder.specs.Channels.{fresh as fresh_encoder}
 use Rattle.encoder.specs.Each.{each, with_step}
@@ -19,12 +20,8 @@ fresh = record {
   fuse = fresh_fuse;
   port = fresh_port;
   outputs = silent;
-  chip0 = fresh_chip;
-  chip1 = fresh_chip;
-  select0 = 0;
-  select1 = 0;
-  analog0 = replicate 4 0;
-  analog1 = replicate 4 0;
+  low = fresh_inputs;
+  high = fresh_inputs;
   encoders = replicate 8 fresh_encoder;
 }
 
@@ -34,18 +31,11 @@ held b = (b.watchdog.rose && b.watchdog.active) || ((b.sense.fell && b.sense.act
 
 -- one tick, in its order; the parts do not touch each other
 abbrev pub ticked : Board → Bool → Board
-ticked b level = record {
-  enabled = b.enabled;
+ticked b level = record b {
   sense = heard b.sense level;
   fuse = sampled b.fuse;
   watchdog = ran b.watchdog;
-  chip0 = on b.chip0 Tick;
-  chip1 = on b.chip1 Tick;
+  low = record b.low { chip = on b.low.chip Tick };
+  high = record b.high { chip = on b.high.chip Tick };
   encoders = each with_step 0 b.encoders;
-  port = b.port;
-  outputs = b.outputs;
-  select0 = b.select0;
-  select1 = b.select1;
-  analog0 = b.analog0;
-  analog1 = b.analog1;
 }

@@ -22,7 +22,7 @@ is_idle (Converting place left) = false
 
 -- an end in chip 0 and 1, all ends in chip 0 and 1
 abbrev pub chip_bits : Board → ℕ
-chip_bits b = weight b.chip0.ended + 2 * weight b.chip1.ended + 4 * weight b.chip0.done + 8 * weight b.chip1.done
+chip_bits b = weight b.low.chip.ended + 2 * weight b.high.chip.ended + 4 * weight b.low.chip.done + 8 * weight b.high.chip.done
 
 -- IST: 0 to 7 carries and borrows, 8 to 15 errors, 16 to 19 the chips, 21 the watchdog, 22 the line, 23 the fuse
 abbrev pub interrupts : Board → ℕ
@@ -32,12 +32,12 @@ interrupts b =
 
 -- CTL: 0 EXT_ACT, 8 to 11 and 16 to 19 the selects; the starts read 0
 abbrev pub control : Board → ℕ
-control b = weight b.sense.active + 0x100 * b.select0 + 0x10000 * b.select1
+control b = weight b.sense.active + 0x100 * b.low.select + 0x10000 * b.high.select
 
 -- STS: 0 and 1 a chip is idle, 4 the fuse and 5 the line as last sampled, 8 the watchdog's output, 9 held
 abbrev pub status : Board → ℕ
 status b =
-    weight (is_idle b.chip0.phase) + 2 * weight (is_idle b.chip1.phase)
+    weight (is_idle b.low.chip.phase) + 2 * weight (is_idle b.high.chip.phase)
     + 0x10 * (weight b.fuse.sample + 2 * weight (not b.sense.high))
     + 0x100 * (weight b.watchdog.output + 2 * weight (held b))
 
@@ -54,7 +54,7 @@ preset_latch b n = (slice_index_or b.encoders n fresh).latch.value
 
 -- one read gives the results of both chips
 abbrev pub results : Board → ℕ × ℕ
-results b = (read_of b.chip0, read_of b.chip1)
+results b = (read_of b.low.chip, read_of b.high.chip)
 
 abbrev pub fetched : Board → Register → Result ℕ Refusal
 fetched b InterruptEnable = Ok b.enabled
@@ -83,21 +83,7 @@ after_read b Preload = b
 after_read b WatchdogControl = b
 after_read b Digital = b
 after_read b Direction = b
-after_read b Results = record {
-  enabled = b.enabled;
-  watchdog = b.watchdog;
-  sense = b.sense;
-  fuse = b.fuse;
-  port = b.port;
-  outputs = b.outputs;
-  chip0 = moved_on b.chip0;
-  chip1 = moved_on b.chip1;
-  select0 = b.select0;
-  select1 = b.select1;
-  analog0 = b.analog0;
-  analog1 = b.analog1;
-  encoders = b.encoders;
-}
+after_read b Results = record b { low = record b.low { chip = moved_on b.low.chip }; high = record b.high { chip = moved_on b.high.chip } }
 after_read b (Codes pair) = b
 after_read b Update = b
 after_read b Modes = b

@@ -2,7 +2,7 @@
 use Rattle.std.specs.Prelude.{ℕ, cond, List, [], ◌∷◌, Some, None, Ok, Err, Option, Result, ◌==◌, bit_and, slice_index_or}
 use Rattle.outputs.specs.Modes.{modes_allowed}
 use Rattle.station.specs.declared.refusal.Refusal.{Refusal}
-use Rattle.station.specs.declared.refusal.Refusal.TheVariants.{ReadOnly, NotAllowed}
+use Rattle.station.specs.declared.refusal.Refusal.TheVariants.{NoSuch, ReadOnly, NotAllowed}
 use Rattle.board.specs.declared.register.Register.{Register}
 use Rattle.board.specs.declared.register.Register.TheVariants.{InterruptEnable, InterruptStatus, Control, Status, Preload, WatchdogControl, Digital, Direction, Results, Codes, Update, Modes, EncoderModes, EncoderCommand, Encoder}
 
@@ -16,6 +16,11 @@ registers =
 
 unfoldable pub numbered : ℕ → Option Register
 numbered n = slice_index_or registers n None
+
+-- a number that names none is refused
+abbrev pub named : {A : Type 0} → Option A → Result A Refusal
+named None = Err NoSuch
+named (Some a) = Ok a
 
 -- the bits that may not be written 1
 abbrev pub forbidden : Register → ℕ

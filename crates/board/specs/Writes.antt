@@ -2,9 +2,8 @@
 use Rattle.std.specs.Prelude.{ℕ, ◌/◌, ◌%◌, Bool, cond, List, slice_index_or, slice_set}
 use Rattle.bits.specs.Counts.{count_of}
 use Rattle.bits.specs.Words.{bit}
-use Rattle.converter.specs.Chips.{on, cleared}
-use Rattle.converter.specs.declared.chip.Chip.{Chip}
-use Rattle.converter.specs.declared.chip.Event.TheVariants.{Start}
+use Rattle.converter.specs.Chips.{cleared}
+use Rattle.converter.specs.Inputs.{controlled as select}
 use Rattle.encoder.specs.Channels.{fresh, preset_to}
 use Rattle.encoder.specs.Each.{each, with_command, with_enable, with_cleared}
 use Rattle.encoder.specs.declared.channel.Encoder.{Encoder as Channel}
@@ -22,136 +21,46 @@ use Rattle.board.specs.declared.register.Register.{Register}
 use Rattle.board.specs.declared.register.Register.TheVariants.{InterruptEnable, InterruptStatus, Control, Status, Preload, WatchdogControl, Digital, Direction, Results, Codes, Update, Modes, EncoderModes, EncoderCommand, Encoder}
 
 abbrev pub with_enabled : Board → ℕ → Board
-with_enabled b value = record {
-  enabled = value;
-  watchdog = b.watchdog;
-  sense = b.sense;
-  fuse = b.fuse;
-  port = b.port;
-  outputs = b.outputs;
-  chip0 = b.chip0;
-  chip1 = b.chip1;
-  select0 = b.select0;
-  select1 = b.select1;
-  analog0 = b.analog0;
-  analog1 = b.analog1;
-  encoders = b.encoders;
-}
+with_enabled b value = record b { enabled = value }
 
 abbrev pub with_watchdog : Board → Watchdog → Board
-with_watchdog b w = record {
-  enabled = b.enabled;
-  watchdog = w;
-  sense = b.sense;
-  fuse = b.fuse;
-  port = b.port;
-  outputs = b.outputs;
-  chip0 = b.chip0;
-  chip1 = b.chip1;
-  select0 = b.select0;
-  select1 = b.select1;
-  analog0 = b.analog0;
-  analog1 = b.analog1;
-  encoders = b.encoders;
-}
+with_watchdog b w = record b { watchdog = w }
 
 abbrev pub with_port : Board → Port → Board
-with_port b p = record {
-  enabled = b.enabled;
-  watchdog = b.watchdog;
-  sense = b.sense;
-  fuse = b.fuse;
-  port = p;
-  outputs = b.outputs;
-  chip0 = b.chip0;
-  chip1 = b.chip1;
-  select0 = b.select0;
-  select1 = b.select1;
-  analog0 = b.analog0;
-  analog1 = b.analog1;
-  encoders = b.encoders;
-}
+with_port b p = record b { port = p }
 
 abbrev pub with_outputs : Board → Outputs → Board
-with_outputs b o = record {
-  enabled = b.enabled;
-  watchdog = b.watchdog;
-  sense = b.sense;
-  fuse = b.fuse;
-  port = b.port;
-  outputs = o;
-  chip0 = b.chip0;
-  chip1 = b.chip1;
-  select0 = b.select0;
-  select1 = b.select1;
-  analog0 = b.analog0;
-  analog1 = b.analog1;
-  encoders = b.encoders;
-}
+with_outputs b o = record b { outputs = o }
 
 abbrev pub with_encoders : Board → List Channel → Board
-with_encoders b es = record {
-  enabled = b.enabled;
-  watchdog = b.watchdog;
-  sense = b.sense;
-  fuse = b.fuse;
-  port = b.port;
-  outputs = b.outputs;
-  chip0 = b.chip0;
-  chip1 = b.chip1;
-  select0 = b.select0;
-  select1 = b.select1;
-  analog0 = b.analog0;
-  analog1 = b.analog1;
-  encoders = es;
-}
+with_encoders b es = record b { encoders = es }
 
 -- IST: a 1 clears; 0 to 7 carries and borrows, 8 to 15 errors, 16 and 17 an end, 18 and 19 all ends of a chip,
 -- 21 the watchdog, 22 the line, 23 the fuse
 abbrev pub status_cleared : Board → ℕ → Board
-status_cleared b value = record {
-  enabled = b.enabled;
+status_cleared b value = record b {
   watchdog = cleared_rise b.watchdog (bit value 21);
   sense = cleared_fall b.sense (bit value 22);
   fuse = cleared_fuse b.fuse (bit value 23);
-  port = b.port;
-  outputs = b.outputs;
-  chip0 = cleared b.chip0 (bit value 16) (bit value 18);
-  chip1 = cleared b.chip1 (bit value 17) (bit value 19);
-  select0 = b.select0;
-  select1 = b.select1;
-  analog0 = b.analog0;
-  analog1 = b.analog1;
+  low = record b.low { chip = cleared b.low.chip (bit value 16) (bit value 18) };
+  high = record b.high { chip = cleared b.high.chip (bit value 17) (bit value 19) };
   encoders = each (with_cleared value) 0 b.encoders;
 }
 
-abbrev pub started : Chip → Bool → ℕ → List ℕ → Chip
-started c start mask wires = cond start (on c (Start mask wires)) c
-
 -- CTL: 0 EXT_ACT, 8 to 11 and 16 to 19 the selects, all stored before 6 and 7 start the chips
 abbrev pub controlled : Board → ℕ → Board
-controlled b value = record {
-  enabled = b.enabled;
-  watchdog = b.watchdog;
+controlled b value = record b {
   sense = with_active b.sense (bit value 0);
-  fuse = b.fuse;
-  port = b.port;
-  outputs = b.outputs;
-  chip0 = started b.chip0 (bit value 6) (value / 0x100 % 16) b.analog0;
-  chip1 = started b.chip1 (bit value 7) (value / 0x10000 % 16) b.analog1;
-  select0 = value / 0x100 % 16;
-  select1 = value / 0x10000 % 16;
-  analog0 = b.analog0;
-  analog1 = b.analog1;
-  encoders = b.encoders;
+  low = select b.low (value / 0x100 % 16) (bit value 6);
+  high = select b.high (value / 0x10000 % 16) (bit value 7);
 }
 
 -- CCT: 8 EN, 12 LD, 14 ACT, 15 SEL
 abbrev pub guarded : Board → ℕ → Board
-guarded b value = with_watchdog b (set_watchdog b.watchdog (bit value 8) (bit value 12) (bit value 14) (bit value 15))
+guarded b value = with_watchdog b (set_watchdog b.watchdog (record { enabled = bit value 8; load = bit value 12; active = bit value 14; selected = bit value 15 }))
 
 abbrev pub moded : Board → ℕ → Board
-moded b value = with_outputs b (record { latches = b.outputs.latches; codes = b.outputs.codes; modes = modes_of value })
+moded b value = with_outputs b (record b.outputs { modes = modes_of value })
 
 abbrev pub enabled_encoders : Board → ℕ → Board
 enabled_encoders b value = with_encoders b (each (with_enable value) 0 b.encoders)

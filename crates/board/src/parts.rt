@@ -1,7 +1,8 @@
 ghost use Rattle.std.specs.Prelude.{◌≡◌};
 ghost use Rattle.board.specs.Boards.{fresh, held, ticked};
 
-use converter::chip::{Chip, Event};
+use converter::chip::Event;
+use converter::inputs::Inputs;
 use encoder::channel::Encoder;
 use encoder::eight::step_all;
 use guards::fuse::Fuse;
@@ -20,13 +21,9 @@ pub struct Board {
     pub fuse: Fuse,
     pub port: Port,
     pub outputs: Outputs,
-    // Chip 0 has the analog wires 0 to 3, chip 1 has 4 to 7; each has the mask of its selected channels.
-    pub chip0: Chip,
-    pub chip1: Chip,
-    pub select0: u8,
-    pub select1: u8,
-    pub analog0: [u16; 4],
-    pub analog1: [u16; 4],
+    // The analog inputs 0 to 3 and 4 to 7, with a chip each.
+    pub low: Inputs,
+    pub high: Inputs,
     pub encoders: [Encoder; 8],
 }
 
@@ -44,12 +41,8 @@ impl Board {
             fuse: Fuse::new(),
             port: Port::new(),
             outputs,
-            chip0: Chip::new(),
-            chip1: Chip::new(),
-            select0: 0,
-            select1: 0,
-            analog0: [0; 4],
-            analog1: [0; 4],
+            low: Inputs::new(),
+            high: Inputs::new(),
             encoders: [encoder; 8],
         }
     }
@@ -70,8 +63,8 @@ impl Board {
         self.sense = self.sense.heard(level);
         self.fuse = self.fuse.sampled();
         self.watchdog = self.watchdog.ran();
-        self.chip0.on(Event::Tick);
-        self.chip1.on(Event::Tick);
+        self.low.chip.on(Event::Tick);
+        self.high.chip.on(Event::Tick);
         step_all(&mut self.encoders);
     }
 

@@ -5,6 +5,7 @@ use crate::parts::Board;
 use crate::register::Register;
 use bits::words::weight;
 use converter::chip::Phase;
+use converter::inputs::Inputs;
 use encoder::eight::{enables, losses, wraps};
 use outputs::mode::bits_of;
 use station::refusal::Refusal;
@@ -12,10 +13,7 @@ use station::refusal::Refusal;
 fn idle(phase: Phase) -> bool
     ensures { result ≡ is_idle phase }
 {
-    match phase {
-        Phase::Idle => true,
-        Phase::Converting { .. } => false,
-    }
+    matches!(phase, Phase::Idle)
 }
 
 impl Board {
@@ -24,10 +22,10 @@ impl Board {
         ensures value { result ≡ chip_bits self.now }
         ensures bound { result < 16 }
     {
-        weight(self.chip0.ended)
-            + 2 * weight(self.chip1.ended)
-            + 4 * weight(self.chip0.done)
-            + 8 * weight(self.chip1.done)
+        weight(self.low.chip.ended)
+            + 2 * weight(self.high.chip.ended)
+            + 4 * weight(self.low.chip.done)
+            + 8 * weight(self.high.chip.done)
     }
 
     // The interrupts that have come.
@@ -47,15 +45,15 @@ impl Board {
     fn control(&self) -> u32
         ensures { result ≡ control self.now }
     {
-        weight(self.sense.active)
-            + 0x100 * u32::from(self.select0)
-            + 0x1_0000 * u32::from(self.select1)
+        let low = self.low.select;
+        let high = self.high.select;
+        weight(self.sense.active) + 0x100 * u32::from(low) + 0x1_0000 * u32::from(high)
     }
 
     fn status(&self) -> u32
         ensures { result ≡ status self.now }
     {
-        let chips = weight(idle(self.chip0.phase)) + 2 * weight(idle(self.chip1.phase));
+        let chips = weight(idle(self.low.chip.phase)) + 2 * weight(idle(self.high.chip.phase));
         let sampled = weight(self.fuse.sample) + 2 * weight(!self.sense.high);
         let guards = weight(self.watchdog.output) + 2 * weight(self.held());
         chips + 0x10 * sampled + 0x100 * guards
@@ -87,7 +85,7 @@ impl Board {
     fn results(&self) -> (u16, u16)
         ensures { result ≡ results self.now }
     {
-        (self.chip0.read(), self.chip1.read())
+        (self.low.chip.read(), self.high.chip.read())
     }
 
     // What a register reads.
@@ -108,7 +106,6 @@ impl Board {
                 Ok(u32::from(low) + 0x1_0000 * u32::from(high))
             }
             Register::Codes { pair } => Ok(self.codes_at(pair)),
-            Register::Update => Err(Refusal::WriteOnly),
             Register::Modes => {
                 let modes = self.outputs.modes;
                 Ok(bits_of(modes))
@@ -117,7 +114,7 @@ impl Board {
                 let encoders = self.encoders;
                 Ok(enables(&encoders))
             }
-            Register::EncoderCommand => Err(Refusal::WriteOnly),
+            Register::Update | Register::EncoderCommand => Err(Refusal::WriteOnly),
             Register::Encoder { number } => Ok(self.preset_latch(number)),
         }
     }
@@ -128,13 +125,15 @@ impl Board {
     {
         match register {
             Register::Results => {
-                let chip0 = self.chip0.moved_on();
-                let chip1 = self.chip1.moved_on();
-                Board {
-                    chip0,
-                    chip1,
-                    ..self
-                }
+                let low = Inputs {
+                    chip: self.low.chip.moved_on(),
+                    ..self.low
+                };
+                let high = Inputs {
+                    chip: self.high.chip.moved_on(),
+                    ..self.high
+                };
+                Board { low, high, ..self }
             }
             _ => self,
         }

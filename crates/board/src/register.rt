@@ -1,5 +1,5 @@
 ghost use Rattle.std.specs.Prelude.{◌≡◌};
-ghost use Rattle.board.specs.Registers.{numbered, forbidden, allowed};
+ghost use Rattle.board.specs.Registers.{numbered, named, forbidden, allowed};
 
 use outputs::mode::modes_allowed;
 use station::refusal::Refusal;
@@ -33,50 +33,39 @@ pub enum Register {
     Encoder { number: u8 },
 }
 
-// The registers by their numbers.
-const REGISTERS: [Option<Register>; 29] = [
-    Some(Register::InterruptEnable),
-    Some(Register::InterruptStatus),
-    Some(Register::Control),
-    Some(Register::Status),
-    None,
-    None,
-    Some(Register::Preload),
-    None,
-    Some(Register::WatchdogControl),
-    Some(Register::Digital),
-    Some(Register::Direction),
-    Some(Register::Results),
-    Some(Register::Codes { pair: 0 }),
-    Some(Register::Codes { pair: 1 }),
-    Some(Register::Codes { pair: 2 }),
-    Some(Register::Codes { pair: 3 }),
-    Some(Register::Update),
-    Some(Register::Modes),
-    None,
-    Some(Register::EncoderModes),
-    Some(Register::EncoderCommand),
-    Some(Register::Encoder { number: 0 }),
-    Some(Register::Encoder { number: 1 }),
-    Some(Register::Encoder { number: 2 }),
-    Some(Register::Encoder { number: 3 }),
-    Some(Register::Encoder { number: 4 }),
-    Some(Register::Encoder { number: 5 }),
-    Some(Register::Encoder { number: 6 }),
-    Some(Register::Encoder { number: 7 }),
-];
+impl TryFrom<u8> for Register {
+    type Error = Refusal;
 
-impl Register {
-    pub fn numbered(number: u8) -> Option<Register>
-        ensures { result ≡ numbered number }
-    {
-        if number < 29 {
-            REGISTERS[number as usize]
-        } else {
-            None
+    ghost try_from_gives = { λ number register. register ≡ named (numbered number) };
+
+    #[tactic(auto, unfolding(crate::specs::Registers::numbered))]
+    fn try_from(number: u8) -> Result<Register, Refusal> {
+        match number {
+            0x00 => Ok(Register::InterruptEnable),
+            0x01 => Ok(Register::InterruptStatus),
+            0x02 => Ok(Register::Control),
+            0x03 => Ok(Register::Status),
+            0x06 => Ok(Register::Preload),
+            0x08 => Ok(Register::WatchdogControl),
+            0x09 => Ok(Register::Digital),
+            0x0a => Ok(Register::Direction),
+            0x0b => Ok(Register::Results),
+            0x0c..=0x0f => Ok(Register::Codes {
+                pair: number - 0x0c,
+            }),
+            0x10 => Ok(Register::Update),
+            0x11 => Ok(Register::Modes),
+            0x13 => Ok(Register::EncoderModes),
+            0x14 => Ok(Register::EncoderCommand),
+            0x15..=0x1c => Ok(Register::Encoder {
+                number: number - 0x15,
+            }),
+            _ => Err(Refusal::NoSuch),
         }
     }
+}
 
+impl Register {
     // The bits that may not be written 1.
     fn forbidden(self) -> u32
         ensures { result ≡ forbidden self }
@@ -98,23 +87,15 @@ impl Register {
     pub fn allowed(self, value: u32) -> Result<(), Refusal>
         ensures { result ≡ allowed self value }
     {
-        match self {
-            Register::Status => Err(Refusal::ReadOnly),
-            Register::Results => Err(Refusal::ReadOnly),
-            Register::Modes => {
-                if modes_allowed(value) {
-                    Ok(())
-                } else {
-                    Err(Refusal::NotAllowed)
-                }
-            }
-            _ => {
-                if value & self.forbidden() == 0 {
-                    Ok(())
-                } else {
-                    Err(Refusal::NotAllowed)
-                }
-            }
+        let fits = match self {
+            Register::Status | Register::Results => return Err(Refusal::ReadOnly),
+            Register::Modes => modes_allowed(value),
+            _ => value & self.forbidden() == 0,
+        };
+        if fits {
+            Ok(())
+        } else {
+            Err(Refusal::NotAllowed)
         }
     }
 }

@@ -1,4 +1,5 @@
 ghost use Rattle.std.specs.Prelude.{◌≡◌, ◌%◌};
+ghost use Rattle.board.specs.Registers.{named};
 ghost use Rattle.board.specs.Wires.{wire_numbered, with_analog, with_levels, wired};
 
 use crate::parts::Board;
@@ -19,20 +20,18 @@ pub enum Wire {
     Fuse,
 }
 
-impl Wire {
-    pub fn numbered(number: u8) -> Option<Wire>
-        ensures { result ≡ wire_numbered number }
-    {
-        if number < 8 {
-            Some(Wire::Analog { channel: number })
-        } else if number == 8 {
-            Some(Wire::Digital)
-        } else if number < 17 {
-            Some(Wire::Encoder { number: number - 9 })
-        } else if number == 18 {
-            Some(Wire::Fuse)
-        } else {
-            None
+impl TryFrom<u8> for Wire {
+    type Error = Refusal;
+
+    ghost try_from_gives = { λ number wire. wire ≡ named (wire_numbered number) };
+
+    fn try_from(number: u8) -> Result<Wire, Refusal> {
+        match number {
+            0..8 => Ok(Wire::Analog { channel: number }),
+            8 => Ok(Wire::Digital),
+            9..17 => Ok(Wire::Encoder { number: number - 9 }),
+            18 => Ok(Wire::Fuse),
+            _ => Err(Refusal::NoSuch),
         }
     }
 }
@@ -41,15 +40,13 @@ impl Board {
     fn with_analog(self, channel: u8, code: u16) -> Board
         ensures { result ≡ with_analog self (channel % 8) code }
     {
-        let channel = (channel % 8) as usize;
+        let channel = channel % 8;
         if channel < 4 {
-            let mut analog0 = self.analog0;
-            analog0[channel] = code;
-            Board { analog0, ..self }
+            let low = self.low.with_wire(channel, code);
+            Board { low, ..self }
         } else {
-            let mut analog1 = self.analog1;
-            analog1[channel - 4] = code;
-            Board { analog1, ..self }
+            let high = self.high.with_wire(channel - 4, code);
+            Board { high, ..self }
         }
     }
 

@@ -1,25 +1,15 @@
 ghost use Rattle.std.specs.Prelude.{◌≡◌, ◌%◌};
-ghost use Rattle.board.specs.Writes.{started, status_cleared, controlled, guarded, moded, enabled_encoders, commanded, with_preset, written};
+ghost use Rattle.board.specs.Writes.{status_cleared, controlled, guarded, moded, enabled_encoders, commanded, with_preset, written};
 
 use crate::parts::Board;
 use crate::register::Register;
 use bits::count::Count;
 use bits::words::bit;
-use converter::chip::{Chip, Event};
+use converter::inputs::Inputs;
 use encoder::eight::{clear_all, command_all, enable_all};
+use guards::watchdog::Control;
 use outputs::channels::Outputs;
 use outputs::mode::modes_of;
-
-// A chip, started where that is asked for.
-fn started(chip: Chip, start: bool, mask: u8, wires: [u16; 4]) -> Chip
-    ensures { result ≡ started chip start mask wires }
-{
-    let mut next = chip;
-    if start {
-        next.on(Event::Start { mask, wires });
-    }
-    next
-}
 
 impl Board {
     // Interrupts are taken back where a 1 stands.
@@ -28,12 +18,18 @@ impl Board {
     {
         let mut encoders = self.encoders;
         clear_all(&mut encoders, value);
-        let chip0 = self.chip0.cleared(bit(value, 16), bit(value, 18));
-        let chip1 = self.chip1.cleared(bit(value, 17), bit(value, 19));
+        let low = Inputs {
+            chip: self.low.chip.cleared(bit(value, 16), bit(value, 18)),
+            ..self.low
+        };
+        let high = Inputs {
+            chip: self.high.chip.cleared(bit(value, 17), bit(value, 19)),
+            ..self.high
+        };
         Board {
             encoders,
-            chip0,
-            chip1,
+            low,
+            high,
             watchdog: self.watchdog.cleared(bit(value, 21)),
             sense: self.sense.cleared(bit(value, 22)),
             fuse: self.fuse.cleared(bit(value, 23)),
@@ -41,22 +37,16 @@ impl Board {
         }
     }
 
-    // The control register: its bits are stored, then the chips are started.
+    // The control register: its bits are stored, then the conversions start that are asked for.
     fn controlled(self, value: u32) -> Board
         ensures { result ≡ controlled self value }
     {
-        let select0 = (value / 0x100 % 16) as u8;
-        let select1 = (value / 0x1_0000 % 16) as u8;
-        let analog0 = self.analog0;
-        let analog1 = self.analog1;
-        let chip0 = started(self.chip0, bit(value, 6), select0, analog0);
-        let chip1 = started(self.chip1, bit(value, 7), select1, analog1);
+        let select_low = (value / 0x100 % 16) as u8;
+        let select_high = (value / 0x1_0000 % 16) as u8;
         Board {
             sense: self.sense.with_active(bit(value, 0)),
-            select0,
-            select1,
-            chip0,
-            chip1,
+            low: self.low.controlled(select_low, bit(value, 6)),
+            high: self.high.controlled(select_high, bit(value, 7)),
             ..self
         }
     }
@@ -65,12 +55,12 @@ impl Board {
     pub fn guarded(self, value: u32) -> Board
         ensures { result ≡ guarded self value }
     {
-        let watchdog = self.watchdog.controlled(
-            bit(value, 8),
-            bit(value, 12),
-            bit(value, 14),
-            bit(value, 15),
-        );
+        let watchdog = self.watchdog.controlled(Control {
+            enabled: bit(value, 8),
+            load: bit(value, 12),
+            active: bit(value, 14),
+            selected: bit(value, 15),
+        });
         Board { watchdog, ..self }
     }
 

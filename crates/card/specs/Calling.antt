@@ -26,6 +26,7 @@ use Rattle.guards.specs.Senses.{with_active, cleared_fall}
 use Rattle.guards.specs.Watchdogs.{cleared_rise, controlled, due, with_preload}
 use Rattle.guards.specs.declared.fuse.Fuse.{Fuse}
 use Rattle.guards.specs.declared.sense.Sense.{Sense}
+use Rattle.guards.specs.declared.watchdog.Control.{Control as ControlWrite}
 use Rattle.guards.specs.declared.watchdog.Watchdog.{Watchdog}
 use Rattle.guards.specs.declared.port.Port.{Port}
 use Rattle.outputs.specs.Channels.{at_rest}
@@ -51,7 +52,7 @@ rest_held false b h q =
 pub settle_seen : (b : Board) → quiet b ≡ true → seen (hold b) ≡ seen b
 settle_seen b q =
     let f = seen b in
-    ap (λ (r : Bool). record { held = f.held; rest = r; passes = f.passes; line = f.line; ready = f.ready; due = f.due; stop = f.stop; pending = f.pending }) (rest_held (held b) b refl q)
+    ap (λ (r : Bool). record f { rest = r }) (rest_held (held b) b refl q)
 
 -- boards with the same guards have the same facts but for rest, stop and pending
 kept_parts : (b b' : Board) → b'.watchdog ≡ b.watchdog → b'.sense ≡ b.sense → b'.fuse ≡ b.fuse → Kept (seen b) (seen (hold b'))
@@ -65,13 +66,13 @@ and_one false = refl
 rise_stays : (w : Watchdog) (x : Bool) → x ≡ false → cleared_rise w x ≡ w
 rise_stays w x e =
     ap (cleared_rise w) e
-    ∙ ap (λ (r : Bool). record { count = w.count; preload = w.preload; enabled = w.enabled; active = w.active; selected = w.selected; output = w.output; rose = r }) (and_one w.rose)
+    ∙ ap (λ (r : Bool). record w { rose = r }) (and_one w.rose)
 
 fall_stays : (s : Sense) (x : Bool) → x ≡ false → cleared_fall s x ≡ s
-fall_stays s x e = ap (cleared_fall s) e ∙ ap (λ (f : Bool). record { high = s.high; fell = f; active = s.active }) (and_one s.fell)
+fall_stays s x e = ap (cleared_fall s) e ∙ ap (λ (f : Bool). record s { fell = f }) (and_one s.fell)
 
 fuse_stays : (f : Fuse) (x : Bool) → x ≡ false → cleared_fuse f x ≡ f
-fuse_stays f x e = ap (cleared_fuse f) e ∙ ap (λ (b : Bool). record { wire = f.wire; sample = f.sample; blown = b }) (and_one f.blown)
+fuse_stays f x e = ap (cleared_fuse f) e ∙ ap (λ (b : Bool). record f { blown = b }) (and_one f.blown)
 
 same_flag : (a b : Bool) → cond a (not b) b ≡ false → a ≡ b
 same_flag true true e = refl
@@ -89,10 +90,11 @@ status_touches b value = record {
 }
 
 -- a watchdog that keeps its control bits and is not loaded stays as it is
-control_stays : (w : Watchdog) (enabled load active selected : Bool) → load ≡ false → enabled ≡ w.enabled → active ≡ w.active → selected ≡ w.selected → controlled w enabled load active selected ≡ w
-control_stays w enabled load active selected l e a s =
-    ap (λ x. controlled w enabled x active selected) l ∙ ap (λ x. controlled w x false active selected) e
-    ∙ ap (λ x. controlled w w.enabled false x selected) a ∙ ap (λ x. controlled w w.enabled false w.active x) s
+control_stays : (w : Watchdog) (c : ControlWrite) → c.load ≡ false → c.enabled ≡ w.enabled → c.active ≡ w.active → c.selected ≡ w.selected → controlled w c ≡ w
+control_stays w c l e a s =
+    ap (λ x. controlled w (record c { load = x })) l ∙ ap (λ x. controlled w (record c { load = false; enabled = x })) e
+    ∙ ap (λ x. controlled w (record c { load = false; enabled = w.enabled; active = x })) a
+    ∙ ap (λ x. controlled w (record c { load = false; enabled = w.enabled; active = w.active; selected = x })) s
 
 -- an allowed write, by its register
 same_touches : (guard : Bool) (f : Facts) → Touches guard f f
@@ -122,7 +124,7 @@ written_touches b WatchdogControl value ok = record {
       let two = or_parts (cond (bit value 8) (not w.enabled) w.enabled) _ one.1 in
       let three = or_parts (cond (bit value 14) (not w.active) w.active) _ two.1 in
       kept_parts b (written b WatchdogControl value)
-      (control_stays w _ _ _ _ one.0 (same_flag (bit value 8) w.enabled two.0) (same_flag (bit value 14) w.active three.0) (same_flag (bit value 15) w.selected three.1)) refl refl;
+      (control_stays w _ one.0 (same_flag (bit value 8) w.enabled two.0) (same_flag (bit value 14) w.active three.0) (same_flag (bit value 15) w.selected three.1)) refl refl;
 }
 written_touches b Digital value ok = plain _ b (written b Digital value) refl refl refl
 written_touches b Direction value ok = plain _ b (written b Direction value) refl refl refl
@@ -158,10 +160,10 @@ pending_as b n e = ap (λ (x : ℕ). record { held = held b; rest = rest b; pass
 
 results_told : (b : Board) → interrupts (after_read b Results) ≡ interrupts b
 results_told b =
-    let a = moved_ended b.chip0 in
-    let d = moved_ended b.chip1 in
-    let e = moved_done b.chip0 in
-    let f = moved_done b.chip1 in
+    let a = moved_ended b.low.chip in
+    let d = moved_ended b.high.chip in
+    let e = moved_done b.low.chip in
+    let f = moved_done b.high.chip in
     cc
 
 read_seen : (b : Board) (r : Register) → quiet b ≡ true → seen (hold (after_read b r)) ≡ seen b

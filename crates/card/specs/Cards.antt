@@ -65,7 +65,7 @@ wire_board b (Some w) level = wired b w level
 
 -- arming writes EN, LD, ACT and SEL as 1
 abbrev pub armed_board : Board → Board
-armed_board b = with_watchdog b (set_watchdog b.watchdog true true true true)
+armed_board b = with_watchdog b (set_watchdog b.watchdog (record { enabled = true; load = true; active = true; selected = true }))
 
 abbrev pub called : Card → Call → Card
 called c (call.Read register) = became c (read_board c.board (numbered register))

@@ -11,18 +11,4 @@ quiet b = cond (held b) (hushed b.outputs && b.port.direction == 0) true
 
 -- a standing cause puts them to 0; the digital latch stays
 abbrev pub hold : Board → Board
-hold b = record {
-  enabled = b.enabled;
-  watchdog = b.watchdog;
-  sense = b.sense;
-  fuse = b.fuse;
-  port = cond (held b) (with_direction b.port 0) b.port;
-  outputs = cond (held b) silent b.outputs;
-  chip0 = b.chip0;
-  chip1 = b.chip1;
-  select0 = b.select0;
-  select1 = b.select1;
-  analog0 = b.analog0;
-  analog1 = b.analog1;
-  encoders = b.encoders;
-}
+hold b = record b { port = cond (held b) (with_direction b.port 0) b.port; outputs = cond (held b) silent b.outputs }

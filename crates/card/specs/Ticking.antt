@@ -48,8 +48,8 @@ card_sound c =
 abbrev ran_by : Bool → Bool → Watchdog → Watchdog
 ran_by e z w = cond e
     (cond z
-    (record { count = w.preload; preload = w.preload; enabled = w.enabled; active = w.active; selected = w.selected; output = not w.output; rose = w.rose || not w.output })
-    (record { count = w.count - 1; preload = w.preload; enabled = w.enabled; active = w.active; selected = w.selected; output = w.output; rose = w.rose }))
+    (record w { count = w.preload; output = not w.output; rose = w.rose || not w.output })
+    (record w { count = w.count - 1 }))
     w
 
 or_none : (a : Bool) → a ≡ (a || false)
@@ -94,7 +94,7 @@ due_sooner w watch stays = ⊎_elim goes_down stays_off (cases_Bool (armed w))
     goes_down a =
         let on = (and_parts w.enabled _ (and_parts _ _ (and_parts _ _ a).0).0).0 in
         let some = eqb-false w.count 0 (sym (ap (λ x. x && w.count == 0) a) ∙ stays) in
-        let down : ran w ≡ record { count = w.count - 1; preload = w.preload; enabled = w.enabled; active = w.active; selected = w.selected; output = w.output; rose = w.rose } =
+        let down : ran w ≡ record w { count = w.count - 1 } =
         cond-true _ _ _ on ∙ cond-false _ _ _ (ne_eqb w.count 0 some) in
         let same : w.count - 1 + 1 ≡ w.count + 1 - 1 = omega (arith, some) in
         ap due down ∙ cond-true _ _ _ a ∙ ap Some same ∙ sym (ap sooner (cond-true _ _ _ a))

@@ -11,6 +11,7 @@ use crate::whole::Card;
 use board::parts::Board;
 use board::register::Register;
 use board::wires::Wire;
+use guards::watchdog::Control;
 use station::Station;
 use station::facts::Facts;
 use station::place::Place;
@@ -28,33 +29,29 @@ fn tick_board(board: &mut Board, level: bool)
 fn write_board(board: Board, register: u8, value: u32) -> Result<Board, Refusal>
     ensures { result ≡ write_board board (numbered register) value }
 {
-    match Register::numbered(register) {
-        None => Err(Refusal::NoSuch),
-        Some(register) => {
-            register.allowed(value)?;
-            Ok(board.written(register, value))
-        }
-    }
+    let register = Register::try_from(register)?;
+    register.allowed(value)?;
+    Ok(board.written(register, value))
 }
 
 // The board after a wire is set, by the number of the wire.
 fn wire_board(board: Board, wire: u8, level: u32) -> Result<Board, Refusal>
     ensures { result ≡ wire_board board (wire_numbered wire) level }
 {
-    match Wire::numbered(wire) {
-        None => Err(Refusal::NoSuch),
-        Some(wire) => board.wired(wire, level),
-    }
+    board.wired(Wire::try_from(wire)?, level)
 }
 
 // Arming writes EN, LD, ACT and SEL as 1.
 fn armed_board(board: Board) -> Board
     ensures { result ≡ armed_board board }
 {
-    Board {
-        watchdog: board.watchdog.controlled(true, true, true, true),
-        ..board
-    }
+    let watchdog = board.watchdog.controlled(Control {
+        enabled: true,
+        load: true,
+        active: true,
+        selected: true,
+    });
+    Board { watchdog, ..board }
 }
 
 impl Station for Card {
@@ -79,9 +76,7 @@ impl Station for Card {
     }
 
     fn read(&mut self, _place: Place, register: u8) -> Result<u32, Refusal> {
-        let Some(register) = Register::numbered(register) else {
-            return Err(Refusal::NoSuch);
-        };
+        let register = Register::try_from(register)?;
         let value = self.board.read(register)?;
         *self = Card::settled(self.board.after_read(register));
         Ok(value)

@@ -2,6 +2,7 @@
 #![tactic(auto)]
 
 pub mod chip;
+pub mod inputs;
 pub mod queue;
 #[cfg(test)]
 mod tests;

@@ -1,5 +1,6 @@
 -- The watchdog.
 use Rattle.std.specs.Prelude.{ℕ, ◌+◌, ◌-◌, Bool, false, cond, not, ◌&&◌, ◌||◌, Some, None, Option, ◌==◌}
+use Rattle.guards.specs.declared.watchdog.Control.{Control}
 use Rattle.guards.specs.declared.watchdog.Watchdog.{Watchdog}
 
 abbrev pub fresh_watchdog : Watchdog
@@ -23,8 +24,8 @@ abbrev pub loaded : Watchdog → Bool → Watchdog
 loaded w load = cond load (turned w w.preload false w.rose) w
 
 -- the control bits are stored, then a load is made
-abbrev pub controlled : Watchdog → (enabled load active selected : Bool) → Watchdog
-controlled w enabled load active selected = loaded (record w { enabled = enabled; active = active; selected = selected }) load
+abbrev pub controlled : Watchdog → Control → Watchdog
+controlled w c = loaded (record w { enabled = c.enabled; active = c.active; selected = c.selected }) c.load
 
 abbrev pub cleared_rise : Watchdog → Bool → Watchdog
 cleared_rise w clear = turned w w.count w.output (w.rose && not clear)

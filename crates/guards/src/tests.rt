@@ -1,11 +1,19 @@
 use crate::fuse::Fuse;
 use crate::port::Port;
-use crate::watchdog::Watchdog;
+use crate::watchdog::{Control, Watchdog};
+
+// All bits of a write that arms.
+const ARM: Control = Control {
+    enabled: true,
+    load: true,
+    active: true,
+    selected: true,
+};
 
 // A watchdog that has been armed with a preload.
 fn armed(preload: u32) -> Watchdog {
     let watchdog = Watchdog::new().with_preload(preload);
-    watchdog.controlled(true, true, true, true)
+    watchdog.controlled(ARM)
 }
 
 #[test]
@@ -29,7 +37,7 @@ fn preload_2_rises_at_tick_3(rt: HostRuntime) {
 fn a_load_puts_the_output_low_and_begins_again(rt: HostRuntime) {
     let high = armed(0).ran();
     assert!(rt; high.output);
-    let loaded = high.with_preload(5).controlled(true, true, true, true);
+    let loaded = high.with_preload(5).controlled(ARM);
     assert!(rt; !loaded.output);
     assert_eq!(rt; loaded.count, 5);
 }

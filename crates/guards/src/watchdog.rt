@@ -16,6 +16,15 @@ pub struct Watchdog {
     pub rose: bool,
 }
 
+// A write of the control bits. LD asks for a load.
+#[derive(Clone, Copy)]
+pub struct Control {
+    pub enabled: bool,
+    pub load: bool,
+    pub active: bool,
+    pub selected: bool,
+}
+
 impl Watchdog {
     // A new watchdog: zeros.
     pub fn new() -> Watchdog
@@ -76,17 +85,17 @@ impl Watchdog {
         }
     }
 
-    // A write of the control bits: they are stored, then a load is made if it is asked for.
-    pub fn controlled(self, enabled: bool, load: bool, active: bool, selected: bool) -> Watchdog
-        ensures { result ≡ controlled self enabled load active selected }
+    // The control bits are stored, then a load is made if it is asked for.
+    pub fn controlled(self, control: Control) -> Watchdog
+        ensures { result ≡ controlled self control }
     {
         let stored = Watchdog {
-            enabled,
-            active,
-            selected,
+            enabled: control.enabled,
+            active: control.active,
+            selected: control.selected,
             ..self
         };
-        stored.loaded(load)
+        stored.loaded(control.load)
     }
 
     // The rise is taken back where `clear` says so.
@@ -110,10 +119,6 @@ impl Watchdog {
     pub fn due(self) -> Option<u64>
         ensures { result ≡ due self }
     {
-        if self.armed() {
-            Some(u64::from(self.count) + 1)
-        } else {
-            None
-        }
+        self.armed().then(|| u64::from(self.count) + 1)
     }
 }
