@@ -74,16 +74,11 @@ after_acknowledge m b place bits (Err why) = b
 -- what an accepted request answers
 abbrev pub Answer : Request → Type 0
 Answer (Read place register) = ℕ
-Answer (Write place register value) = Unit {0}
-Answer (Wire place wire level) = Unit {0}
 Answer (Run level count) = ℕ
 Answer (Until level count) = ℕ
 Answer (Take place) = ℕ
-Answer (Acknowledge place bits) = Unit {0}
 Answer (Volts place channel) = ℤ
-Answer (Preload place ticks) = Unit {0}
-Answer (Arm place) = Unit {0}
-Answer (Kick place) = Unit {0}
+Answer q = Unit {0}
 
 abbrev pub reply : {S : Type 0} → Meaning S → Bench S → (q : Request) → Result (Answer q) Refusal
 reply m b (Read place register) = answer_at m b place (call.Read register)

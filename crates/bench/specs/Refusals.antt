@@ -13,12 +13,8 @@ number (ServiceOpen place) = 8
 number (NoService place) = 9
 
 abbrev pub layer : Refusal → ℕ
-layer (NoPlace place) = 2
 layer (Station place why) = 3
-layer TooMany = 2
-layer (NothingPending place) = 2
-layer (ServiceOpen place) = 2
-layer (NoService place) = 2
+layer r = 2
 
 abbrev pub detail : Refusal → ℕ
 detail (NoPlace place) = place

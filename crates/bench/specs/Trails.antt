@@ -21,17 +21,9 @@ ticks_of (Ok n) = n
 ticks_of (Err why) = 0
 
 abbrev pub ticks_told : (q : Request) → Result (Answer q) Refusal → ℕ
-ticks_told (Read place register) r = 0
-ticks_told (Write place register value) r = 0
-ticks_told (Wire place wire level) r = 0
 ticks_told (Run level count) r = ticks_of r
 ticks_told (Until level count) r = ticks_of r
-ticks_told (Take place) r = 0
-ticks_told (Acknowledge place bits) r = 0
-ticks_told (Volts place channel) r = 0
-ticks_told (Preload place ticks) r = 0
-ticks_told (Arm place) r = 0
-ticks_told (Kick place) r = 0
+ticks_told q r = 0
 
 -- those that a list of requests returns
 abbrev pub ticks_returned : {S : Type 0} → Meaning S → Bench S → List Request → ℕ

@@ -75,18 +75,5 @@ fetched b (Encoder n) = Ok (preset_latch b (n % 8))
 
 -- a read of the results moves both chips on
 abbrev pub after_read : Board → Register → Board
-after_read b InterruptEnable = b
-after_read b InterruptStatus = b
-after_read b Control = b
-after_read b Status = b
-after_read b Preload = b
-after_read b WatchdogControl = b
-after_read b Digital = b
-after_read b Direction = b
 after_read b Results = record b { low = record b.low { chip = moved_on b.low.chip }; high = record b.high { chip = moved_on b.high.chip } }
-after_read b (Codes pair) = b
-after_read b Update = b
-after_read b Modes = b
-after_read b EncoderModes = b
-after_read b EncoderCommand = b
-after_read b (Encoder n) = b
+after_read b r = b

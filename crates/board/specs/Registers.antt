@@ -27,36 +27,16 @@ abbrev pub forbidden : Register → ℕ
 forbidden InterruptEnable = 0xff100000
 forbidden InterruptStatus = 0xff100000
 forbidden Control = 0xfff0f03e
-forbidden Status = 0
-forbidden Preload = 0
 forbidden WatchdogControl = 0xffff2eff
-forbidden Digital = 0
-forbidden Direction = 0
-forbidden Results = 0
 forbidden (Codes pair) = 0xf000f000
-forbidden Update = 0
-forbidden Modes = 0
 forbidden EncoderModes = 0xeeeeeeee
 forbidden EncoderCommand = 0xff000000
 forbidden (Encoder n) = 0xff000000
-
-abbrev by_mask : Register → ℕ → Result (Unit {0}) Refusal
-by_mask r value = cond (bit_and value (forbidden r) == 0) (Ok tt) (Err NotAllowed)
+forbidden r = 0
 
 -- first what can only be read, then reserved bits and mode 3
 abbrev pub allowed : Register → ℕ → Result (Unit {0}) Refusal
-allowed InterruptEnable value = by_mask InterruptEnable value
-allowed InterruptStatus value = by_mask InterruptStatus value
-allowed Control value = by_mask Control value
 allowed Status value = Err ReadOnly
-allowed Preload value = by_mask Preload value
-allowed WatchdogControl value = by_mask WatchdogControl value
-allowed Digital value = by_mask Digital value
-allowed Direction value = by_mask Direction value
 allowed Results value = Err ReadOnly
-allowed (Codes pair) value = by_mask (Codes pair) value
-allowed Update value = by_mask Update value
 allowed Modes value = cond (modes_allowed value) (Ok tt) (Err NotAllowed)
-allowed EncoderModes value = by_mask EncoderModes value
-allowed EncoderCommand value = by_mask EncoderCommand value
-allowed (Encoder n) value = by_mask (Encoder n) value
+allowed r value = cond (bit_and value (forbidden r) == 0) (Ok tt) (Err NotAllowed)

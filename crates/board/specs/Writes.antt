@@ -1,5 +1,5 @@
 -- What a write makes of the board.
-use Rattle.std.specs.Prelude.{ℕ, ◌/◌, ◌%◌, Bool, cond, List, slice_index_or, slice_set}
+use Rattle.std.specs.Prelude.{ℕ, ◌/◌, ◌%◌, List, slice_index_or, slice_set}
 use Rattle.bits.specs.Counts.{count_of}
 use Rattle.bits.specs.Words.{bit}
 use Rattle.converter.specs.Chips.{cleared}

@@ -17,7 +17,7 @@ use Rattle.board.specs.Wires.{with_fuse, with_analog, with_levels}
 use Rattle.board.specs.Writes.{written, status_cleared, with_port, with_watchdog}
 use Rattle.board.specs.declared.parts.Board.{Board}
 use Rattle.board.specs.declared.register.Register.{Register}
-use Rattle.board.specs.declared.register.Register.TheVariants.{InterruptEnable, InterruptStatus, Control, Status, Preload, WatchdogControl, Digital, Direction, Results, Codes, Update, Modes, EncoderModes, EncoderCommand, Encoder}
+use Rattle.board.specs.declared.register.Register.TheVariants.{InterruptStatus, Control, Preload, WatchdogControl, Results}
 use Rattle.board.specs.declared.wires.Wire.{Wire}
 use Rattle.board.specs.declared.wires.Wire.TheVariants.{Analog, Digital as Digital-wire, Encoder as Encoder-wire, Fuse as Fuse-wire}
 use Rattle.guards.specs.Fuses.{cleared_fuse, with_wire}
@@ -104,7 +104,6 @@ plain : (guard : Bool) (b b' : Board) → b'.watchdog ≡ b.watchdog → b'.sens
 plain guard b b' w s f = record { stop = ap (λ (x : Fuse). x.wire) f; else_kept = λ _. kept_parts b b' w s f }
 
 written_touches : (b : Board) (r : Register) (value : ℕ) → is_ok (allowed r value) ≡ true → Touches (guarding b (Some r) value) (seen b) (seen (hold (written b r value)))
-written_touches b InterruptEnable value ok = plain _ b (written b InterruptEnable value) refl refl refl
 written_touches b InterruptStatus value ok =
     subst (λ g. Touches (g && clears_cause value) (seen b) (seen (hold (written b InterruptStatus value)))) (sym ok) (status_touches b value)
 written_touches b Control value ok = record {
@@ -113,7 +112,6 @@ written_touches b Control value ok = record {
       let same = same_flag (bit value 0) b.sense.active (sym (ap (λ g. g && cond (bit value 0) (not b.sense.active) b.sense.active) ok) ∙ none) in
       kept_parts b (written b Control value) refl (ap (with_active b.sense) same) refl;
 }
-written_touches b Status value ok = plain _ b (written b Status value) refl refl refl
 written_touches b Preload value ok = record { stop = refl; else_kept = λ _. record { held = refl; passes = refl; line = refl; ready = refl; due = refl } }
 written_touches b WatchdogControl value ok = record {
   stop = refl;
@@ -126,15 +124,7 @@ written_touches b WatchdogControl value ok = record {
       kept_parts b (written b WatchdogControl value)
       (control_stays w _ one.0 (same_flag (bit value 8) w.enabled two.0) (same_flag (bit value 14) w.active three.0) (same_flag (bit value 15) w.selected three.1)) refl refl;
 }
-written_touches b Digital value ok = plain _ b (written b Digital value) refl refl refl
-written_touches b Direction value ok = plain _ b (written b Direction value) refl refl refl
-written_touches b Results value ok = plain _ b (written b Results value) refl refl refl
-written_touches b (Codes pair) value ok = plain _ b (written b (Codes pair) value) refl refl refl
-written_touches b Update value ok = plain _ b (written b Update value) refl refl refl
-written_touches b Modes value ok = plain _ b (written b Modes value) refl refl refl
-written_touches b EncoderModes value ok = plain _ b (written b EncoderModes value) refl refl refl
-written_touches b EncoderCommand value ok = plain _ b (written b EncoderCommand value) refl refl refl
-written_touches b (Encoder n) value ok = plain _ b (written b (Encoder n) value) refl refl refl
+written_touches b r value ok = plain _ b (written b r value) refl refl refl
 
 -- any write
 write_touches : (c : Card) (r : Option Register) (value : ℕ) → is_ok (after {B = Unit {0}} (λ _. tt) (write_board c.board r value)) ≡ true →
@@ -167,21 +157,8 @@ results_told b =
     cc
 
 read_seen : (b : Board) (r : Register) → quiet b ≡ true → seen (hold (after_read b r)) ≡ seen b
-read_seen b InterruptEnable q = settle_seen b q
-read_seen b InterruptStatus q = settle_seen b q
-read_seen b Control q = settle_seen b q
-read_seen b Status q = settle_seen b q
-read_seen b Preload q = settle_seen b q
-read_seen b WatchdogControl q = settle_seen b q
-read_seen b Digital q = settle_seen b q
-read_seen b Direction q = settle_seen b q
 read_seen b Results q = settle_seen (after_read b Results) q ∙ pending_as (after_read b Results) (interrupts b) (results_told b)
-read_seen b (Codes pair) q = settle_seen b q
-read_seen b Update q = settle_seen b q
-read_seen b Modes q = settle_seen b q
-read_seen b EncoderModes q = settle_seen b q
-read_seen b EncoderCommand q = settle_seen b q
-read_seen b (Encoder n) q = settle_seen b q
+read_seen b r q = settle_seen b q
 
 read_looks : (c : Card) (r : Option Register) → seen (became c (read_board c.board r)).board ≡ seen c.board
 unfolding settled
@@ -295,10 +272,7 @@ card_refused c (call.Read register) bad = read_refused c (numbered register) bad
 card_refused c (call.Write register value) bad = became_refused c _ bad
 card_refused c (call.Wire wire level) bad = became_refused c _ bad
 card_refused c (call.Volts channel) bad = refl
-card_refused c (call.Acknowledge bits) bad = absurd (true≢false bad)
-card_refused c (call.Preload ticks) bad = absurd (true≢false bad)
-card_refused c call.Arm bad = absurd (true≢false bad)
-card_refused c call.Kick bad = absurd (true≢false bad)
+card_refused c q bad = absurd (true≢false bad)
 
 -- the card's one place hears what it is told
 heard_there : (c : Card) (told : Bool) (k : ℕ) → k < 1 → heard card c told k ≡ told

@@ -14,7 +14,7 @@ use Rattle.board.specs.Wires.{wire_numbered, wired}
 use Rattle.board.specs.Writes.{written, status_cleared, with_watchdog}
 use Rattle.board.specs.declared.parts.Board.{Board}
 use Rattle.board.specs.declared.register.Register.{Register}
-use Rattle.board.specs.declared.register.Register.TheVariants.{InterruptEnable, InterruptStatus, Control, Status, Preload, WatchdogControl, Digital, Direction, Results, Codes, Update, Modes, EncoderModes, EncoderCommand, Encoder}
+use Rattle.board.specs.declared.register.Register.TheVariants.{InterruptStatus, Control, WatchdogControl}
 use Rattle.board.specs.declared.wires.Wire.{Wire}
 use Rattle.guards.specs.Ports.{with_direction}
 use Rattle.guards.specs.Watchdogs.{with_preload, controlled as set_watchdog}
@@ -100,33 +100,19 @@ differs a b = cond a (not b) b
 -- the guard calls: an accepted CTL write that changes bit 0, an IST write or acknowledgement with bit 21, 22 or 23,
 -- a CCT write that changes its bits or has bit 12, and every arming call
 abbrev pub guarding : Board → Option Register → ℕ → Bool
-guarding b None value = false
-guarding b (Some InterruptEnable) value = false
 guarding b (Some InterruptStatus) value = is_ok (allowed InterruptStatus value) && clears_cause value
 guarding b (Some Control) value = is_ok (allowed Control value) && differs (bit value 0) b.sense.active
-guarding b (Some Status) value = false
-guarding b (Some Preload) value = false
 guarding b (Some WatchdogControl) value = is_ok (allowed WatchdogControl value) &&
     (bit value 12 || (differs (bit value 8) b.watchdog.enabled || (differs (bit value 14) b.watchdog.active || differs (bit value 15) b.watchdog.selected)))
-guarding b (Some Digital) value = false
-guarding b (Some Direction) value = false
-guarding b (Some Results) value = false
-guarding b (Some (Codes pair)) value = false
-guarding b (Some Update) value = false
-guarding b (Some Modes) value = false
-guarding b (Some EncoderModes) value = false
-guarding b (Some EncoderCommand) value = false
-guarding b (Some (Encoder n)) value = false
+guarding b r value = false
 
 abbrev pub guards : Board → Call → Bool
-guards b (call.Read register) = false
 guards b (call.Write register value) = guarding b (numbered register) value
-guards b (call.Wire wire level) = false
-guards b (call.Volts channel) = false
 guards b (call.Acknowledge bits) = clears_cause bits
 guards b (call.Preload ticks) = true
 guards b call.Arm = true
 guards b call.Kick = true
+guards b c = false
 
 abbrev pub card : Meaning Card
 card = record {

@@ -7,7 +7,7 @@ use Rattle.station.specs.declared.refusal.Refusal.{Refusal}
 use Rattle.station.specs.declared.refusal.Refusal.TheVariants.{NoSuch}
 use Rattle.drive.specs.declared.motor.Drive.{Drive}
 use Rattle.drive.specs.declared.register.Register.{Register}
-use Rattle.drive.specs.declared.register.Register.TheVariants.{Setpoint, Listen, Fall}
+use Rattle.drive.specs.declared.register.Register.TheVariants.{Listen, Fall}
 use Rattle.drive.specs.declared.state.State.{State}
 use Rattle.drive.specs.Quiet.{quiet}
 use Rattle.drive.specs.Registers.{numbered, flag}
@@ -33,14 +33,9 @@ became d (Ok s) = settled s
 became d (Err e) = d
 
 abbrev pub called : Drive → Call → Drive
-called d (Read register) = d
 called d (Write register value) = became d (written d.state (numbered register) value)
 called d (Wire wire level) = became d (wired d.state wire level)
-called d (Volts channel) = d
-called d (Acknowledge bits) = d
-called d (Preload ticks) = d
-called d Arm = d
-called d Kick = d
+called d c = d
 
 -- accepted, with nothing to tell
 abbrev pub done : Result State Refusal → Result (Unit {0}) Refusal
@@ -63,20 +58,13 @@ changes (Err e) old = false
 
 -- the guard calls: a write that changes LISTEN, and one of 1 to the fall latch
 abbrev pub guarding : State → Result Register Refusal → ℕ → Bool
-guarding s (Ok Setpoint) value = false
 guarding s (Ok Listen) value = changes (flag value) s.listen
 guarding s (Ok Fall) value = value == 1
-guarding s (Err e) value = false
+guarding s r value = false
 
 abbrev pub guards : State → Call → Bool
-guards s (Read register) = false
 guards s (Write register value) = guarding s (numbered register) value
-guards s (Wire wire level) = false
-guards s (Volts channel) = false
-guards s (Acknowledge bits) = false
-guards s (Preload ticks) = false
-guards s Arm = false
-guards s Kick = false
+guards s c = false
 
 abbrev pub drive : Meaning Drive
 drive = record {

@@ -6,7 +6,7 @@ use mathlib.Core.HLevel.{is_prop→PathP}
 use Rattle.std.proofs.lemmas.Bool.{cond_both, true≢false, eqb-true}
 use Rattle.std.proofs.lemmas.Bool.Decides.{nat_tests}
 use Rattle.station.specs.declared.call.Call.{Call}
-use Rattle.station.specs.declared.call.Call.TheVariants.{Read, Write, Wire, Volts, Acknowledge, Preload, Arm, Kick}
+use Rattle.station.specs.declared.call.Call.TheVariants.{Read, Write, Wire, Volts}
 use Rattle.station.specs.declared.facts.Facts.{Facts}
 use Rattle.station.specs.declared.refusal.Refusal.{Refusal}
 use Rattle.station.specs.declared.refusal.Refusal.TheVariants.{NoSuch, NotAllowed}
@@ -108,24 +108,16 @@ drive_here d (Read register) ok = refl
 drive_here d (Write register value) ok = write_here d (numbered register) value
 drive_here d (Wire wire level) ok = wire_here d (wire == 0) level ok
 drive_here d (Volts channel) ok = refl
-drive_here d (Acknowledge bits) ok = unchanged _ _
-drive_here d (Preload ticks) ok = unchanged _ _
-drive_here d Arm ok = unchanged _ _
-drive_here d Kick ok = unchanged _ _
+drive_here d c ok = unchanged _ _
 
 refused_state : (d : Drive) (r : Result State Refusal) → is_ok (after {B = Unit {0}} (λ _. tt) r) ≡ false → became d r ≡ d
 refused_state d (Ok s) bad = absurd (true≢false bad)
 refused_state d (Err e) bad = refl
 
 drive_refused : (d : Drive) (c : Call) → is_ok (answered d.state c) ≡ false → called d c ≡ d
-drive_refused d (Read register) bad = refl
 drive_refused d (Write register value) bad = refused_state d _ bad
 drive_refused d (Wire wire level) bad = refused_state d _ bad
-drive_refused d (Volts channel) bad = refl
-drive_refused d (Acknowledge bits) bad = refl
-drive_refused d (Preload ticks) bad = refl
-drive_refused d Arm bad = refl
-drive_refused d Kick bad = refl
+drive_refused d c bad = refl
 
 -- the drive's one place hears what it is told
 heard_there : (d : Drive) (told : Bool) (k : ℕ) → k < 1 → heard drive d told k ≡ told

@@ -2,7 +2,7 @@
 use Rattle.std.specs.Prelude.{◌≡◌, ℕ, zero, suc, ◌+◌, ◌≤◌, min, Bool, true, false, cond, not, ◌&&◌, ◌||◌, ◌↔◌, [], ◌∷◌, Some, None, Option}
 use Rattle.station.specs.Meaning.{Meaning}
 use Rattle.station.specs.declared.call.Call.{Call}
-use Rattle.station.specs.declared.call.Call.TheVariants.{Read, Write, Wire, Volts, Acknowledge, Preload, Arm, Kick}
+use Rattle.station.specs.declared.call.Call.TheVariants.{Wire}
 use Rattle.station.specs.declared.facts.Facts.{Facts}
 use Rattle.falls.specs.declared.forecast.Forecast.{Forecast}
 use Rattle.falls.specs.declared.forecast.Forecast.TheVariants.{Unsettled, Never, At}
@@ -11,14 +11,8 @@ use Rattle.falls.specs.Law.{Addressed, AllReady}
 
 -- a history in which every tick is told one level, and no wire is set
 abbrev pub sets_wire : Call → Bool
-sets_wire (Read register) = false
-sets_wire (Write register value) = false
 sets_wire (Wire wire level) = true
-sets_wire (Volts channel) = false
-sets_wire (Acknowledge bits) = false
-sets_wire (Preload ticks) = false
-sets_wire Arm = false
-sets_wire Kick = false
+sets_wire c = false
 
 abbrev pub Steady : Bool → History → Type 0
 Steady level [] = Unit {0}

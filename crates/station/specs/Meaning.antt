@@ -1,20 +1,15 @@
 -- What a station means: its places, what is told of each, and what a tick or a call makes of it.
 use Rattle.std.specs.Prelude.{ℕ, Bool, ℤ, Result}
 use Rattle.station.specs.declared.call.Call.{Call}
-use Rattle.station.specs.declared.call.Call.TheVariants.{Read, Write, Wire, Volts, Acknowledge, Preload, Arm, Kick}
+use Rattle.station.specs.declared.call.Call.TheVariants.{Read, Volts}
 use Rattle.station.specs.declared.facts.Facts.{Facts}
 use Rattle.station.specs.declared.refusal.Refusal.{Refusal}
 
 -- what an accepted call answers
 abbrev pub Value : Call → Type 0
 Value (Read register) = ℕ
-Value (Write register value) = Unit {0}
-Value (Wire wire level) = Unit {0}
 Value (Volts channel) = ℤ
-Value (Acknowledge bits) = Unit {0}
-Value (Preload ticks) = Unit {0}
-Value Arm = Unit {0}
-Value Kick = Unit {0}
+Value c = Unit {0}
 
 pub record Meaning (S : Type 0) : Type 0 where
   -- how many places it stands at

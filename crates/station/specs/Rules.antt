@@ -1,7 +1,7 @@
 -- The rules that every kind of station keeps.
 use Rattle.std.specs.Prelude.{◌≡◌, ℕ, zero, suc, ◌-◌, ◌<◌, Bool, true, false, cond, not, ◌||◌, is_ok, Some, None, Ok, Option, ◌==◌, ◌≢◌, nat_lt}
 use Rattle.station.specs.declared.call.Call.{Call}
-use Rattle.station.specs.declared.call.Call.TheVariants.{Read, Write, Wire, Volts, Acknowledge, Preload, Arm, Kick}
+use Rattle.station.specs.declared.call.Call.TheVariants.{Read, Wire, Volts, Acknowledge}
 use Rattle.station.specs.declared.facts.Facts.{Facts}
 use Rattle.station.specs.Meaning.{Meaning}
 
@@ -59,13 +59,9 @@ with_stop f level = record f { stop = level }
 -- what an accepted call does to the facts of its own place, which has a stop wire
 abbrev pub Does : Call → (guard : Bool) → (stop_wire : ℕ) → (old new : Facts) → Type 0
 Does (Read register) guard stop_wire old new = new ≡ old
-Does (Write register value) guard stop_wire old new = Touches guard old new
-Does (Wire wire level) guard stop_wire old new = new ≡ cond (wire == stop_wire) (with_stop old (nat_lt 0 level)) old
 Does (Volts channel) guard stop_wire old new = new ≡ old
-Does (Acknowledge bits) guard stop_wire old new = Touches guard old new
-Does (Preload ticks) guard stop_wire old new = Touches guard old new
-Does Arm guard stop_wire old new = Touches guard old new
-Does Kick guard stop_wire old new = Touches guard old new
+Does (Wire wire level) guard stop_wire old new = new ≡ cond (wire == stop_wire) (with_stop old (nat_lt 0 level)) old
+Does c guard stop_wire old new = Touches guard old new
 
 pub record Rules {S : Type 0} (m : Meaning S) : Type 0 where
   -- there are one or more places, always as many
