@@ -28,7 +28,7 @@ pub struct Arming<Stage> {
 impl Arming<Begun> {
     // Begins an arming. Whether there is such a place is asked by the calls that follow.
     pub fn begin(place: u8) -> Arming<Begun>
-        ensures { result.place ≡ place }
+        ensures { result ≡ record { place = place; stage = record {} } }
     {
         Arming {
             place,

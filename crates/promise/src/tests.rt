@@ -9,21 +9,17 @@ use std::process::Abort;
 use std::test::Fail;
 
 fn held(bench: &Bench<Lift>, place: u8) -> bool {
-    match bench.facts(place) {
-        Ok(facts) => facts.held,
-        Err(_) => false,
-    }
+    bench.facts(place).is_ok_and(|facts| facts.held)
 }
 
 // The watchdog of the first card armed with a preload of 2, so that it rises at tick 3.
 fn armed(bench: &mut Bench<Lift>) -> Result<Arming<Armed>, Fail> {
-    let Ok(preloaded) = bench.preload(Arming::begin(0), 2) else {
-        return Err(Fail::new("a card takes a preload"));
-    };
-    match bench.arm(preloaded) {
-        Ok(armed) => Ok(armed),
-        Err(_) => Err(Fail::new("a card can be armed")),
-    }
+    let preloaded = bench
+        .preload(Arming::begin(0), 2)
+        .map_err(|_| Fail::new("a card takes a preload"))?;
+    bench
+        .arm(preloaded)
+        .map_err(|_| Fail::new("a card can be armed"))
 }
 
 #[test]
