@@ -6,6 +6,7 @@ use station::place::Place;
 
 impl Services {
     // No service is open.
+    #[tactic(auto, using(crate::proofs::Same::same_services), unfolding(crate::specs::Services::no_service))]
     pub(crate) fn none() -> Services
         ensures { result ≡ no_service }
     {
@@ -13,6 +14,7 @@ impl Services {
     }
 
     // The bits of the service that is open at a place.
+    #[tactic(auto, unfolding(crate::specs::Services::service))]
     pub(crate) fn at(&self, place: Place) -> Option<u32>
         ensures { result ≡ service self.now place.number }
     {
@@ -27,6 +29,7 @@ impl Services {
     }
 
     // Opens or ends the service of a place.
+    #[tactic(auto, using(crate::proofs::Same::same_services), unfolding(crate::specs::Services::with_service))]
     pub(crate) fn put(&mut self, place: Place, service: Option<u32>)
         ensures { self.new ≡ with_service self.old place.number service }
     {

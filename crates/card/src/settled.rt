@@ -51,6 +51,7 @@ pub fn facts(board: &Board) -> Facts
 
 impl Card {
     // The card with its parts in a state, held if a cause stands.
+    #[tactic(auto, using(crate::specs::Cards::hold_quiet, crate::proofs::Same::same_card), unfolding(crate::specs::Cards::settled))]
     pub(crate) fn settled(mut board: Board) -> Card
         ensures { result ≡ settled board }
     {

@@ -35,6 +35,7 @@ impl Drive {
     }
 
     // The drive in a state, its set point 0 where the latch is set.
+    #[tactic(auto, using(crate::specs::DrivesLemmas::same_drive), unfolding(crate::specs::Drives::settled))]
     fn settled(state: State) -> Drive
         ensures { result ≡ settled state }
     {
