@@ -5,7 +5,6 @@ use crate::parts::Board;
 use crate::register::Register;
 use bits::words::weight;
 use converter::chip::Phase;
-use converter::inputs::Inputs;
 use encoder::eight::{enables, losses, wraps};
 use outputs::mode::bits_of;
 use station::refusal::Refusal;
@@ -119,23 +118,14 @@ impl Board {
         }
     }
 
-    // The board after a read: both chips move on to their next result.
-    pub fn after_read(self, register: Register) -> Board
+    // The board after a read: that of the results moves both chips on to their next one.
+    pub fn after_read(mut self, register: Register) -> Board
         ensures { result ≡ after_read self register }
     {
-        match register {
-            Register::Results => {
-                let low = Inputs {
-                    chip: self.low.chip.moved_on(),
-                    ..self.low
-                };
-                let high = Inputs {
-                    chip: self.high.chip.moved_on(),
-                    ..self.high
-                };
-                Board { low, high, ..self }
-            }
-            _ => self,
+        if let Register::Results = register {
+            self.low.chip = self.low.chip.moved_on();
+            self.high.chip = self.high.chip.moved_on();
         }
+        self
     }
 }

@@ -37,17 +37,16 @@ impl TryFrom<u8> for Wire {
 }
 
 impl Board {
-    fn with_analog(self, channel: u8, code: u16) -> Board
+    fn with_analog(mut self, channel: u8, code: u16) -> Board
         ensures { result ≡ with_analog self (channel % 8) code }
     {
         let channel = channel % 8;
         if channel < 4 {
-            let low = self.low.with_wire(channel, code);
-            Board { low, ..self }
+            self.low = self.low.with_wire(channel, code);
         } else {
-            let high = self.high.with_wire(channel - 4, code);
-            Board { high, ..self }
+            self.high = self.high.with_wire(channel - 4, code);
         }
+        self
     }
 
     fn with_levels(self, number: u8, level: u32) -> Board

@@ -5,7 +5,6 @@ use crate::parts::Board;
 use crate::register::Register;
 use bits::count::Count;
 use bits::words::bit;
-use converter::inputs::Inputs;
 use encoder::eight::{clear_all, command_all, enable_all};
 use guards::watchdog::Control;
 use outputs::channels::Outputs;
@@ -13,28 +12,16 @@ use outputs::mode::modes_of;
 
 impl Board {
     // Interrupts are taken back where a 1 stands.
-    pub fn status_cleared(self, value: u32) -> Board
+    pub fn status_cleared(mut self, value: u32) -> Board
         ensures { result ≡ status_cleared self value }
     {
-        let mut encoders = self.encoders;
-        clear_all(&mut encoders, value);
-        let low = Inputs {
-            chip: self.low.chip.cleared(bit(value, 16), bit(value, 18)),
-            ..self.low
-        };
-        let high = Inputs {
-            chip: self.high.chip.cleared(bit(value, 17), bit(value, 19)),
-            ..self.high
-        };
-        Board {
-            encoders,
-            low,
-            high,
-            watchdog: self.watchdog.cleared(bit(value, 21)),
-            sense: self.sense.cleared(bit(value, 22)),
-            fuse: self.fuse.cleared(bit(value, 23)),
-            ..self
-        }
+        clear_all(&mut self.encoders, value);
+        self.low.chip = self.low.chip.cleared(bit(value, 16), bit(value, 18));
+        self.high.chip = self.high.chip.cleared(bit(value, 17), bit(value, 19));
+        self.watchdog = self.watchdog.cleared(bit(value, 21));
+        self.sense = self.sense.cleared(bit(value, 22));
+        self.fuse = self.fuse.cleared(bit(value, 23));
+        self
     }
 
     // The control register: its bits are stored, then the conversions start that are asked for.

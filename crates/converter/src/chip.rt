@@ -75,14 +75,13 @@ impl Chip {
     }
 
     // The conversion of a place ends: its result is there, and the next one begins if there is one.
-    fn ended_channel(self, place: u8) -> Chip
-        ensures { result ≡ ended_channel self (place % 4) }
+    fn end_channel(&mut self, place: u8)
+        ensures { self.new ≡ ended_channel self.old (place % 4) }
     {
         let place = place % 4;
-        let mut results = self.results;
-        results[place as usize] = self.samples[place as usize];
         let more = place + 1 < self.number;
-        let phase = if more {
+        self.results[usize::from(place)] = self.samples[usize::from(place)];
+        self.phase = if more {
             Phase::Converting {
                 place: place + 1,
                 left: TICKS,
@@ -90,13 +89,8 @@ impl Chip {
         } else {
             Phase::Idle
         };
-        Chip {
-            phase,
-            results,
-            ended: true,
-            done: self.done | !more,
-            ..self
-        }
+        self.ended = true;
+        self.done |= !more;
     }
 
     // One tick of a conversion.
@@ -109,7 +103,7 @@ impl Chip {
                 left: left - 1,
             };
         } else {
-            *self = self.ended_channel(place);
+            self.end_channel(place);
         }
     }
 
@@ -131,7 +125,7 @@ impl Chip {
         if self.number == 0 {
             0
         } else {
-            extended(self.results[(self.next % 4) as usize])
+            extended(self.results[usize::from(self.next % 4)])
         }
     }
 

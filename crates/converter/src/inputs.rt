@@ -25,30 +25,24 @@ impl Inputs {
     }
 
     // Sets the code at a wire, modulo 4.
-    pub fn with_wire(self, wire: u8, code: u16) -> Inputs
+    pub fn with_wire(mut self, wire: u8, code: u16) -> Inputs
         ensures { result ≡ with_wire self (wire % 4) code }
     {
-        let mut wires = self.wires;
-        wires[(wire % 4) as usize] = code;
-        Inputs { wires, ..self }
+        self.wires[usize::from(wire % 4)] = code;
+        self
     }
 
     // Selects inputs; then, where that is asked for, their conversion starts.
-    pub fn controlled(self, select: u8, start: bool) -> Inputs
+    pub fn controlled(mut self, select: u8, start: bool) -> Inputs
         ensures { result ≡ controlled self select start }
     {
-        let wires = self.wires;
-        let mut chip = self.chip;
+        self.select = select;
         if start {
-            chip.on(Event::Start {
+            self.chip.on(Event::Start {
                 mask: select,
-                wires,
+                wires: self.wires,
             });
         }
-        Inputs {
-            chip,
-            select,
-            ..self
-        }
+        self
     }
 }

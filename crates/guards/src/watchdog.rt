@@ -1,5 +1,5 @@
 ghost use Rattle.std.specs.Prelude.{◌≡◌};
-ghost use Rattle.guards.specs.Watchdogs.{fresh_watchdog, ran, with_preload, loaded, controlled, cleared_rise, armed, due};
+ghost use Rattle.guards.specs.Watchdogs.{fresh_watchdog, ran, with_preload, controlled, cleared_rise, armed, due};
 
 // The watchdog: a counter whose output toggles each time it runs down.
 #[derive(Clone, Copy)]
@@ -70,32 +70,19 @@ impl Watchdog {
         Watchdog { preload, ..self }
     }
 
-    // A load puts the output low, and the count begins again.
-    fn loaded(self, load: bool) -> Watchdog
-        ensures { result ≡ loaded self load }
-    {
-        if load {
-            Watchdog {
-                count: self.preload,
-                output: false,
-                ..self
-            }
-        } else {
-            self
-        }
-    }
-
-    // The control bits are stored, then a load is made if it is asked for.
-    pub fn controlled(self, control: Control) -> Watchdog
+    // The control bits are stored, then a load is made if it is asked for: it puts the output low, and the count
+    // begins again.
+    pub fn controlled(mut self, control: Control) -> Watchdog
         ensures { result ≡ controlled self control }
     {
-        let stored = Watchdog {
-            enabled: control.enabled,
-            active: control.active,
-            selected: control.selected,
-            ..self
-        };
-        stored.loaded(control.load)
+        self.enabled = control.enabled;
+        self.active = control.active;
+        self.selected = control.selected;
+        if control.load {
+            self.count = self.preload;
+            self.output = false;
+        }
+        self
     }
 
     // The rise is taken back where `clear` says so.
