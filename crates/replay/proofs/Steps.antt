@@ -1,5 +1,5 @@
 -- A trace replayed line by line.
-use Rattle.std.proofs.Common.{◌≡◌, ℕ, List, [], ◌∷◌, ◌++◌, sym, ap, ◌∙◌, append_assoc, append-nil}
+use Rattle.std.proofs.Common.{◌≡◌, ℕ, List, [], ◌∷◌, ◌++◌, sym, ap, ◌∙◌, append_assoc}
 use Rattle.station.specs.Meaning.{Meaning}
 use Rattle.bench.specs.declared.Bench.{Bench}
 use Rattle.lines.specs.Lines.{decoded}
@@ -25,12 +25,3 @@ module _ {S : Type 0} (m : Meaning S) where
   unfolding left_by
   bench_more b end left l rest b' sofar next carried =
       sofar ∙ ap (left_by m b) next ∙ ap (λ x. left_by m x rest) (sym carried)
-
-  -- nothing left
-  pub records_all : (b : Bench S) (all out : List ℕ) (left : List (List ℕ)) → all ≡ out ++ replayed m b left → left ≡ [] → out ≡ all
-  unfolding replayed
-  records_all b all out left sofar none = sym (sofar ∙ ap (λ ls. out ++ replayed m b ls) none ∙ append-nil out)
-
-  pub bench_all : (b end : Bench S) (left : List (List ℕ)) → end ≡ left_by m b left → left ≡ [] → b ≡ end
-  unfolding left_by
-  bench_all b end left sofar none = sym (sofar ∙ ap (left_by m b) none)

@@ -58,6 +58,7 @@ pub struct Replayed<S> {
 }
 
 // Replays a whole trace.
+#[tactic(auto, using(crate::proofs::Asked::left_asked), unfolding(crate::specs::Replays::replayed, crate::specs::Replays::left_by))]
 pub fn replay<S: Station + Drop>(
     heap: Global,
     mut bench: Bench<S>,

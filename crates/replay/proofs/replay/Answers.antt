@@ -1,9 +1,7 @@
 use Rattle.std.proofs.Common.{◌++◌, vec_items, ap, ◌∙◌}
-use Rattle.lines.specs.Cuts.{lines}
 use Rattle.lines.specs.Records.{record_of}
 use Rattle.replay.specs.Refusals.{answer_coded}
-use Rattle.replay.proofs.Asked.{left_asked}
-use Rattle.replay.proofs.Steps.{records_more, bench_more, records_all, bench_all}
+use Rattle.replay.proofs.Steps.{records_more, bench_more}
 use Rattle.replay.proofs.replay.Goals as goal
 
 pub loop-line-preserved : goal.loop-line-preserved
@@ -16,13 +14,3 @@ loop-line-preserved g c =
       records_more m _ _ _ _ _ _ _ _ c.loop-line.invariant.0 next told.after pushed,
       bench_more m _ _ _ _ _ _ c.loop-line.invariant.1 next told.after,
     )
-
-pub returns : goal.returns
-returns g c =
-    let m = g.S.Station.meaning in
-    let none = c.in-None.ensures.steps.0 in
-    let left = bench_all m _ _ _ c.loop-line.invariant.1 none in
-    record {
-      replayed = (records_all m _ _ _ _ c.loop-line.invariant.0 none, left);
-      requests = left ∙ left_asked m (lines c.args.trace.now) c.args.bench;
-    }
