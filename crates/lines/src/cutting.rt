@@ -43,6 +43,7 @@ impl<'a> Iterator for Lines<'a> {
 
     ghost remaining = { item_count (λ s. lines s.rest.now) };
 
+    #[tactic(auto, unfolding(crate::specs::Cuts::lines, crate::specs::Cuts::lines_from))]
     fn next(&mut self) -> Option<&'a [u8]> {
         let (line, after) = cut(self.rest)?;
         self.rest = after;

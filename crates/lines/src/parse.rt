@@ -97,6 +97,7 @@ impl<'a> Short<'a> {
     }
 
     // Its column, counted from 1.
+    #[tactic(auto, using(crate::proofs::Columns::column_of_place))]
     fn first_bad(&self) -> Option<u8>
         ensures { result ≡ first_bad 1 self.now.text.now }
     {

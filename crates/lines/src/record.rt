@@ -1,5 +1,5 @@
 ghost use Rattle.std.specs.Prelude.{◌≡◌};
-ghost use Rattle.lines.specs.Records.{word_of, two, record_of};
+ghost use Rattle.lines.specs.Records.{number_of, word_of, two, record_of};
 
 use crate::digits::letter;
 
@@ -15,13 +15,19 @@ pub struct Coded {
 pub fn record(answer: Result<u32, Coded>) -> [u8; 11]
     ensures { result ≡ record_of answer }
 {
-    let [n1, n0] = two(answer.map_or_else(|refusal| refusal.number, |_| 0));
+    let [n1, n0] = two(number(answer));
     let [a, b, c, d] = word(answer).to_be_bytes();
     let [a1, a0] = two(a);
     let [b1, b0] = two(b);
     let [c1, c0] = two(c);
     let [d1, d0] = two(d);
     [n1, n0, a1, a0, b1, b0, c1, c0, d1, d0, b'\n']
+}
+
+fn number(answer: Result<u32, Coded>) -> u8
+    ensures { result ≡ number_of answer }
+{
+    answer.map_or_else(|refusal| refusal.number, |_| 0)
 }
 
 fn word(answer: Result<u32, Coded>) -> u32
