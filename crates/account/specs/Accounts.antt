@@ -5,8 +5,7 @@ use Rattle.bench.specs.Calls.{places}
 use Rattle.bench.specs.Trails.{trail}
 use Rattle.bench.specs.declared.Bench.{Bench}
 use Rattle.lines.specs.Lines.{decoded}
-use Rattle.lines.specs.declared.outcome.Outcome.{Outcome}
-use Rattle.replay.specs.Replays.{line_told, after_line, asked, left_by}
+use Rattle.replay.specs.Replays.{Outcome, line_told, after_line, asked, left_by}
 use Rattle.account.specs.declared.Account.{Account}
 use Rattle.account.specs.Sinces.{AllTell}
 use Rattle.account.specs.Watches.{View, view, begun, line_view}

@@ -6,8 +6,8 @@ ghost use Rattle.lines.specs.Cuts.{lines};
 ghost use Rattle.account.specs.Accounts.{Accounts};
 
 use bench::Bench;
-use lines::cutting::cut;
-use lines::outcome::Outcome;
+use lines::cutting::Lines;
+use replay::refusal::Refusal;
 use station::Station;
 use std::alloc::{AllocError, Global};
 use watch::Watch;
@@ -20,7 +20,7 @@ pub mod watching;
 #[derive(Drop)]
 pub struct Account<S> {
     pub watch: Watch<S>,
-    pub outcomes: Vec<Outcome>,
+    pub outcomes: Vec<Result<u32, Refusal>>,
 }
 
 // Replays a whole trace, and keeps the account of it.
@@ -33,11 +33,8 @@ pub fn account_of<S: Station + Drop>(
 {
     let mut watch = Watch::new(heap, bench)?;
     let mut outcomes = Vec::new(heap);
-    let mut rest = trace;
-    while let Some((line, after)) = cut(rest) {
-        let outcome = watch.replay_line(line);
-        outcomes.push(outcome)?;
-        rest = after;
+    for line in Lines::of(trace) {
+        outcomes.push(watch.replay_line(line))?;
     }
     Ok(Account { watch, outcomes })
 }

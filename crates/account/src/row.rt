@@ -1,5 +1,4 @@
-ghost use Rattle.std.specs.Prelude.{◌≡◌};
-ghost use Rattle.station.specs.Rules.{due_now};
+ghost use Rattle.std.specs.Prelude.{◌≡◌, false};
 ghost use Rattle.account.specs.Rows.{begun_row, caused, noted, seen, passed_on};
 
 use bench::refusal::Refusal;
@@ -28,12 +27,38 @@ pub struct Row {
     pub rest: Option<Rest>,
 }
 
-fn due_now(due: Option<u64>) -> bool
-    ensures { result ≡ due_now due }
-{
-    match due {
-        Some(ticks) => ticks == 1,
-        None => false,
+// A step of the bench, as a place hears it.
+#[derive(Clone, Copy)]
+pub struct Step {
+    // The ticks that were made by then.
+    pub tick: u64,
+    // The level that the place hears in the tick; none at a call.
+    pub hears: Option<bool>,
+}
+
+impl Step {
+    // The same step, as the place behind that of a row hears it.
+    pub fn behind(self, row: Row) -> Step
+        ensures { result ≡ record { tick = self.tick; hears = passed_on row self.hears } }
+    {
+        Step {
+            hears: self.hears.map(|_| row.facts.line),
+            ..self
+        }
+    }
+}
+
+impl Rest {
+    // The place came to rest at a tick, and saw no cause.
+    fn uncaused(tick: u64) -> Rest
+        ensures { result ≡ record { tick = tick; due = false; stop = false; line = false } }
+    {
+        Rest {
+            tick,
+            due: false,
+            stop: false,
+            line: false,
+        }
     }
 }
 
@@ -43,49 +68,36 @@ impl Row {
     pub fn begun(facts: Facts) -> Row
         ensures { result ≡ begun_row facts }
     {
-        let rest = Rest {
-            tick: 0,
-            due: false,
-            stop: false,
-            line: false,
-        };
         Row {
             facts,
             heard: true,
-            rest: if facts.held { Some(rest) } else { None },
+            rest: facts.held.then_some(Rest::uncaused(0)),
         }
     }
 
-    // Why the place may come to rest now: by a tick in which it hears a level, or by a call.
-    fn caused(self, tick: u64, hears: Option<bool>) -> Rest
-        ensures { result ≡ caused self tick hears }
+    // Why the place may come to rest in a step.
+    fn caused(self, step: Step) -> Rest
+        ensures { result ≡ caused self step.tick step.hears }
     {
-        match hears {
-            Some(level) => {
-                let due = due_now(self.facts.due);
-                let stop = self.facts.stop;
-                let alone = !(due | stop);
-                Rest {
-                    tick,
-                    due,
-                    stop,
-                    line: self.heard & !level & (self.facts.passes | alone),
-                }
-            }
-            None => Rest {
-                tick,
-                due: false,
-                stop: false,
-                line: false,
-            },
+        let Some(level) = step.hears else {
+            return Rest::uncaused(step.tick);
+        };
+        let due = self.facts.due == Some(1);
+        let stop = self.facts.stop;
+        let alone = !(due | stop);
+        Rest {
+            tick: step.tick,
+            due,
+            stop,
+            line: self.heard & !level & (self.facts.passes | alone),
         }
     }
 
-    // The row after a tick in which the place heard a level, or after a call.
-    pub fn noted(self, tick: u64, hears: Option<bool>, facts: Facts) -> Row
-        ensures { result ≡ noted self tick hears facts }
+    // The row after a step.
+    pub fn noted(self, step: Step, facts: Facts) -> Row
+        ensures { result ≡ noted self step.tick step.hears facts }
     {
-        let cause = self.caused(tick, hears);
+        let cause = self.caused(step);
         let since = if self.facts.held {
             self.rest
         } else {
@@ -93,28 +105,15 @@ impl Row {
         };
         Row {
             facts,
-            heard: hears.unwrap_or(self.heard),
+            heard: step.hears.unwrap_or(self.heard),
             rest: if facts.held { since } else { None },
         }
     }
 
     // The same where the place can be looked at; else the row stays.
-    pub fn seen(self, tick: u64, hears: Option<bool>, looked: Result<Facts, Refusal>) -> Row
-        ensures { result ≡ seen self tick hears looked }
+    pub fn seen(self, step: Step, looked: Result<Facts, Refusal>) -> Row
+        ensures { result ≡ seen self step.tick step.hears looked }
     {
-        match looked {
-            Ok(facts) => self.noted(tick, hears, facts),
-            Err(_) => self,
-        }
-    }
-
-    // What the place behind this one hears in the tick.
-    pub fn passed_on(self, hears: Option<bool>) -> Option<bool>
-        ensures { result ≡ passed_on self hears }
-    {
-        match hears {
-            Some(_) => Some(self.facts.line),
-            None => None,
-        }
+        looked.map_or(self, |facts| self.noted(step, facts))
     }
 }

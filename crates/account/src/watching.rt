@@ -4,43 +4,37 @@ ghost use Rattle.bench.specs.Calls.{reply};
 ghost use Rattle.lines.specs.Lines.{decoded};
 ghost use Rattle.replay.specs.Replays.{request, outcome, line_told};
 
-use crate::row::Row;
+use crate::row::{Row, Step};
 use crate::watch::Watch;
-use bench::refusal::Refusal;
+use bench::refusal::Refusal as Turned;
 use bench::{Bench, MOST};
 use lines::command::Command;
-use lines::outcome::Outcome;
 use lines::parse::decode;
-use replay::{carry_out, malformed};
+use replay::carry_out;
+use replay::refusal::Refusal;
 use station::Station;
 use station::facts::Facts;
 use std::alloc::{AllocError, Global};
 
 // Begins the row of a place that can be looked at.
-fn begin(rows: &mut Vec<Row>, looked: Result<Facts, Refusal>) -> Result<(), AllocError>
+fn begin(rows: &mut Vec<Row>, looked: Result<Facts, Turned>) -> Result<(), AllocError>
     ensures { OnOk result ((rows.new.items ≡ rows.old.items ++ first_row looked) × (vec_len rows.new ≤ vec_len rows.old + 1)) }
 {
-    match looked {
-        Ok(facts) => {
-            rows.push(Row::begun(facts))?;
-            Ok(())
-        }
-        Err(_) => Ok(()),
+    if let Ok(facts) = looked {
+        rows.push(Row::begun(facts))?;
     }
+    Ok(())
 }
 
-// Notes what is to be seen of each place after a tick at a level, or after a call.
-fn note_rows<S: Station>(bench: &Bench<S>, rows: &mut [Row], tick: u64, told: Option<bool>)
+// Notes what is to be seen of each place after a step, which the first place hears so.
+fn note_rows<S: Station>(bench: &Bench<S>, rows: &mut [Row], mut step: Step)
     requires { length rows.old ≤ 16 }
-    ensures { rows.new ≡ rows_after S.Station.meaning bench.now tick told 0 rows.old }
+    ensures { rows.new ≡ rows_after S.Station.meaning bench.now step.tick step.hears 0 rows.old }
 {
-    let mut place = 0;
-    let mut hears = told;
-    for row in rows.iter_mut() {
+    for (place, row) in rows.iter_mut().enumerate() {
         let old = *row;
-        *row = old.seen(tick, hears, bench.facts(place));
-        hears = old.passed_on(hears);
-        place += 1;
+        *row = old.seen(step, bench.facts(place as u8));
+        step = step.behind(old);
     }
 }
 
@@ -81,36 +75,39 @@ impl<S: Station> Watch<S> {
     }
 
     // Carries a command out, a tick at a time where it makes ticks.
-    pub fn carry_out(&mut self, command: Command) -> Outcome
+    pub fn carry_out(&mut self, command: Command) -> Result<u32, Refusal>
         ensures value { result ≡ outcome (request command) (reply S.Station.meaning self.old.bench (request command)) }
         ensures after { view self.new ≡ request_view S.Station.meaning (request command) (view self.old) }
     {
-        if let Command::Run { high, count } = command {
-            if count <= MOST {
+        match command {
+            Command::Run { high, count } if count <= MOST => {
                 self.run(high, count);
-                return Outcome::Value(count);
+                Ok(count)
+            }
+            _ => {
+                let outcome = carry_out(&mut self.bench, command);
+                self.note(None);
+                outcome
             }
         }
-        let outcome = carry_out(&mut self.bench, command);
-        self.note(None);
-        outcome
     }
 
-    // Carries a line of a trace out, or says why it is none.
-    pub fn replay_line(&mut self, line: &[u8]) -> Outcome
+    // Carries a line of a trace out, or says why not.
+    pub fn replay_line(&mut self, line: &[u8]) -> Result<u32, Refusal>
         ensures value { result ≡ line_told S.Station.meaning self.old.bench (decoded line.now) }
         ensures after { view self.new ≡ line_view S.Station.meaning (decoded line.now) (view self.old) }
     {
-        match decode(line) {
-            Ok(command) => self.carry_out(command),
-            Err(why) => malformed(why),
-        }
+        self.carry_out(decode(line)?)
     }
 
     // Looks at each place after a tick at a level, or after a call.
     fn note(&mut self, told: Option<bool>)
         ensures { view self.new ≡ seeing S.Station.meaning self.old.bench self.old.ticks told (view self.old) }
     {
-        note_rows(&self.bench, &mut self.rows, self.ticks, told);
+        let step = Step {
+            tick: self.ticks,
+            hears: told,
+        };
+        note_rows(&self.bench, &mut self.rows, step);
     }
 }

@@ -1,10 +1,13 @@
-ghost use Rattle.std.specs.Prelude.{◌≡◌};
+ghost use Rattle.std.specs.Prelude.{◌≡◌, Some, codes};
 ghost use Rattle.bench.specs.Refusals.{number, layer, detail};
+ghost use Rattle.bench.specs.declared.refusal.Refusal.TheVariants.{NoPlace, Station, TooMany, NothingPending, ServiceOpen, NoService};
 
 use station::refusal::Refusal as Turned;
+use std::error::Error;
+use std::fmt;
 
 // Why the bench turns a call down.
-#[derive(Clone, Copy)]
+#[derive(Clone, Copy, PartialEq, Eq, Debug)]
 pub enum Refusal {
     // The place is not in the chain, or has no address.
     NoPlace { place: u8 },
@@ -59,6 +62,36 @@ impl Refusal {
         }
     }
 }
+
+// What the refusal means, for people.
+impl fmt::Display for Refusal {
+    ghost output = { elim [
+      | NoPlace place ↦ Some (codes "that place is not in the chain")
+      | Station place why ↦ ⟦<Turned as fmt::Display>⟧.output why
+      | TooMany ↦ Some (codes "one run makes at most 1000000 ticks (000F4240)")
+      | NothingPending place ↦ Some (codes "no interrupt is pending at that place")
+      | ServiceOpen place ↦ Some (codes "a service is open at that place already")
+      | NoService place ↦ Some (codes "no service is open at that place with the bits of the ticket")
+    ] };
+
+    fn fmt<W: fmt::Write>(&self, f: &mut fmt::Formatter<W>) -> fmt::Result {
+        match self {
+            Refusal::NoPlace { .. } => write!(f, "that place is not in the chain"),
+            Refusal::Station { why, .. } => write!(f, "{why}"),
+            Refusal::TooMany => write!(f, "one run makes at most 1000000 ticks (000F4240)"),
+            Refusal::NothingPending { .. } => write!(f, "no interrupt is pending at that place"),
+            Refusal::ServiceOpen { .. } => write!(f, "a service is open at that place already"),
+            Refusal::NoService { .. } => {
+                write!(
+                    f,
+                    "no service is open at that place with the bits of the ticket"
+                )
+            }
+        }
+    }
+}
+
+impl Error for Refusal {}
 
 // A call that was turned down, with what its caller had given for it.
 #[derive(Drop)]

@@ -1,21 +1,25 @@
--- The search for the first character that is no digit, a character at a time.
-use Rattle.std.proofs.Common.{◌≡◌, ℕ, ◌+◌, ◌<◌, ◌≤◌, true, false, cond, List, length, get_or, drop, is_some, Some, None, ◌∙◌}
-use Rattle.std.proofs.lemmas.List.{at_drop_more, at_drop_all}
-use Rattle.std.proofs.lemmas.Bool.{cond-true, cond-false}
+-- The column of the first character that is no digit, by its place in the line.
+use Rattle.std.proofs.Common.{◌≡◌, ℕ, ◌+◌, Bool, true, false, cond, not, List, [], ◌∷◌, is_some, Some, None, Option, refl, ap, ◌∙◌, sym}
+use Rattle.std.proofs.lemmas.Iterator.Adapters.{position_from-zero}
+use Rattle.std.specs.List.{position, position_from}
 use Rattle.lines.specs.Digits.{digit}
 use Rattle.lines.specs.Lines.{first_bad}
 
--- what is left of the line from its character i on
-left : (at : ℕ) (l : List ℕ) (i : ℕ) → i < length l → first_bad at (drop i l) ≡ cond (is_some (digit (get_or l i 0))) (first_bad (at + 1) (drop (i + 1) l)) (Some at)
+abbrev pub bad : ℕ → Bool
+bad c = not (is_some (digit c))
+
+abbrev pub next_column : Option ℕ → Option ℕ
+next_column (Some i) = Some (i + 1)
+next_column None = None
+
+same_place : (good : Bool) (i : ℕ) (later : Option ℕ) → cond good (next_column later) (Some (i + 1)) ≡ next_column (cond (not good) (Some i) later)
+same_place true i later = refl
+same_place false i later = refl
+
+from : (i : ℕ) (l : List ℕ) → first_bad (i + 1) l ≡ next_column (position_from bad i l)
 unfolding first_bad
-left at l i h = at_drop_more (first_bad at) l i 0 h
+from i [] = refl
+from i (c ∷ cs) = ap (λ later. cond (is_some (digit c)) later (Some (i + 1))) (from (i + 1) cs) ∙ same_place (is_some (digit c)) i (position_from bad (i + 1) cs)
 
-pub bad_here : (at : ℕ) (l : List ℕ) (i : ℕ) → i < length l → is_some (digit (get_or l i 0)) ≡ false → first_bad at (drop i l) ≡ Some at
-bad_here at l i h e = left at l i h ∙ cond-false _ _ _ e
-
-pub bad_later : (at : ℕ) (l : List ℕ) (i : ℕ) → i < length l → is_some (digit (get_or l i 0)) ≡ true → first_bad at (drop i l) ≡ first_bad (at + 1) (drop (i + 1) l)
-bad_later at l i h e = left at l i h ∙ cond-true _ _ _ e
-
-pub bad_none : (at : ℕ) (l : List ℕ) (i : ℕ) → length l ≤ i → first_bad at (drop i l) ≡ None
-unfolding first_bad
-bad_none at l i h = at_drop_all (first_bad at) l i h
+pub column_of_place : (l : List ℕ) → first_bad 1 l ≡ next_column (position bad l)
+column_of_place l = from 0 l ∙ ap next_column (sym (position_from-zero bad l))

@@ -1,54 +1,63 @@
--- A trace cut into lines, a character at a time.
-use Rattle.std.proofs.Common.{◌≡◌, ℕ, ◌+◌, ◌-◌, ◌<◌, ◌≤◌, cond, eqb, List, [], ◌∷◌, ◌++◌, length, get_or, take, drop, sym, refl, ap, ◌∙◌, subst, arith, length-drop}
-use Rattle.std.proofs.lemmas.List.{take_more, take_all, at_drop_more, at_drop_all, drop_all}
+-- A trace cut at the first end of a line.
+use Rattle.std.proofs.Common.{◌≡◌, ℕ, suc, ◌+◌, ◌-◌, ◌<◌, ◌≤◌, Bool, true, false, cond, not, eqb, List, [], ◌∷◌, ◌++◌, length, take, drop, position, Some, None, sym, refl, ap, ◌∙◌, subst, append_assoc, append-nil, arith, length-append, length-drop}
+use Rattle.std.proofs.lemmas.List.{take_all, drop_all}
+use Rattle.std.proofs.lemmas.Bool.{ltb-false}
+use Rattle.std.proofs.lemmas.List.Quantifiers.{position-Some}
 use Rattle.std.proofs.lemmas.Slice.{between_to_end}
-use Rattle.std.proofs.lemmas.Bool.{eq-eqb, ne_eqb, cond-true, cond-false}
-use Rattle.lines.specs.Cuts.{last_line, lines_from, lines}
+use Rattle.std.specs.List.{position_or_len}
+use Rattle.lines.specs.Cuts.{lines_from, lines}
 
-pub lines_begin : (l : List ℕ) → lines l ≡ lines_from [] l
+abbrev pub is_end : ℕ → Bool
+is_end c = eqb c 10
+
+-- one character of a line that has begun, before what is left
+one_more : (end : Bool) (begun : List ℕ) (c : ℕ) (cs : List ℕ) (n : ℕ) → lines_from (begun ++ c ∷ []) cs ≡ ((begun ++ c ∷ []) ++ take n cs) ∷ lines (drop (n + 1) cs) →
+    cond end (begun ∷ lines cs) (lines_from (begun ++ c ∷ []) cs) ≡ (begun ++ take (cond (not end) (1 + n) 0) (c ∷ cs)) ∷ lines (drop (cond (not end) (1 + n) 0 + 1) (c ∷ cs))
+one_more true begun c cs n later = ap (λ l. l ∷ lines cs) (sym (append-nil begun))
+one_more false begun c cs n later =
+    let first : 1 + n ≡ suc n = omega arith in
+    let second : 1 + n + 1 ≡ suc (n + 1) = omega arith in
+    later ∙ ap (λ l. l ∷ lines (drop (n + 1) cs)) (append_assoc begun (c ∷ []) (take n cs))
+    ∙ ap (λ k. (begun ++ take k (c ∷ cs)) ∷ lines (drop (n + 1) cs)) (sym first)
+    ∙ ap (λ k. (begun ++ take (1 + n) (c ∷ cs)) ∷ lines (drop k (c ∷ cs))) (sym second)
+
+from_begun : (begun l : List ℕ) → 0 < length begun + length l →
+    lines_from begun l ≡ (begun ++ take (position_or_len is_end l) l) ∷ lines (drop (position_or_len is_end l + 1) l)
+unfolding lines_from lines
+from_begun [] [] some = absurd (omega arith)
+from_begun (b ∷ bs) [] some = ap (λ l. l ∷ []) (sym (append-nil (b ∷ bs)))
+from_begun begun (c ∷ cs) some =
+    one_more (is_end c) begun c cs (position_or_len is_end cs) (from_begun (begun ++ c ∷ []) cs (omega (arith, length-append begun (c ∷ []))))
+
+first_line : (l : List ℕ) → 0 < length l → lines l ≡ take (position_or_len is_end l) l ∷ lines (drop (position_or_len is_end l + 1) l)
 unfolding lines
-lines_begin l = refl
+first_line l some = from_begun [] l (omega arith)
 
--- the next character i of what is left
-left : (l : List ℕ) (i : ℕ) → i < length l →
-    lines_from (take i l) (drop i l) ≡ cond (eqb (get_or l i 0) 10) (take i l ∷ lines_from [] (drop (i + 1) l)) (lines_from (take i l ++ (get_or l i 0 ∷ [])) (drop (i + 1) l))
-unfolding lines_from
-left l i h = at_drop_more (lines_from (take i l)) l i 0 h
+placed : (found : Bool) (n : ℕ) (end : ℕ) → cond found (Some n) None ≡ Some end → n ≡ end
+placed true n end e = cc
+placed false n end e = cc
 
-pub line_goes_on : (l : List ℕ) (i : ℕ) → i < length l → (get_or l i 0 ≡ 10 → ⊥) → lines_from (take i l) (drop i l) ≡ lines_from (take (i + 1) l) (drop (i + 1) l)
-line_goes_on l i h other =
-    left l i h ∙ cond-false _ _ _ (ne_eqb _ _ other) ∙ ap (λ begun. lines_from begun (drop (i + 1) l)) (sym (take_more l i 0 h))
+not_placed : (found : Bool) (n : ℕ) → cond found (Some n) None ≡ None → found ≡ false
+not_placed true n e = cc
+not_placed false n e = refl
 
 -- a cut as the code makes it: the line up to its end, and what follows
-pub record Cut (l line rest : List ℕ) : Type 0 where
-  pub first : lines l ≡ line ∷ lines rest
-  pub shorter : length rest < length l
+pub cut_at : (l : List ℕ) (end : ℕ) → 0 < length l → position is_end l ≡ Some end →
+    let rest : List ℕ = take (length l - (end + 1)) (drop (end + 1) l) in (lines l ≡ take end l ∷ lines rest) × (length rest < length l)
+cut_at l end some found =
+    let here : position_or_len is_end l ≡ end = placed _ _ _ found in
+    let within : end < length l = (position-Some is_end l end 0 found).0 in
+    let rest : take (length l - (end + 1)) (drop (end + 1) l) ≡ drop (end + 1) l = between_to_end l (end + 1) (length l) (omega arith) in (
+      first_line l some ∙ ap (λ n. take n l ∷ lines (drop (n + 1) l)) here ∙ ap (λ r. take end l ∷ lines r) (sym rest),
+      subst (λ r. length r < length l) (sym rest) (omega (arith, length-drop (end + 1) l)),
+    )
 
-pub line_ends : (l : List ℕ) (i : ℕ) → i < length l → get_or l i 0 ≡ 10 → lines l ≡ lines_from (take i l) (drop i l) →
-    Cut l (take (i - 0) l) (take (length l - (i + 1)) (drop (i + 1) l))
-line_ends l i h ends sofar =
-    let rest : take (length l - (i + 1)) (drop (i + 1) l) ≡ drop (i + 1) l = between_to_end l (i + 1) (length l) (omega arith) in
-    let all : i ≡ i - 0 = omega arith in
-    record {
-      first = sofar ∙ left l i h ∙ cond-true _ _ _ (eq-eqb _ _ ends)
-          ∙ ap (λ n. take n l ∷ lines_from [] (drop (i + 1) l)) all ∙ ap (λ t. take (i - 0) l ∷ t) (sym (lines_begin _) ∙ ap lines (sym rest));
-      shorter = subst (λ t. length t < length l) (sym rest) (omega (arith, length-drop (i + 1) l));
-    }
-
-last_whole : (l : List ℕ) → 0 < length l → last_line l ≡ l ∷ []
-last_whole [] h = absurd (omega arith)
-last_whole (c ∷ cs) h = refl
-
-pub trace_ends : (l : List ℕ) (i : ℕ) → length l ≤ i → 0 < length l → lines l ≡ lines_from (take i l) (drop i l) →
-    Cut l l (take (length l - length l) (drop (length l) l))
-unfolding lines_from lines
-trace_ends l i h some sofar =
-    let rest : take (length l - length l) (drop (length l) l) ≡ [] = between_to_end l (length l) (length l) (omega arith) ∙ drop_all (length l) l (omega arith) in
-    record {
-      first = sofar ∙ at_drop_all (lines_from (take i l)) l i h ∙ ap last_line (take_all i l h) ∙ last_whole l some ∙ ap (λ t. l ∷ lines t) (sym rest);
-      shorter = subst (λ t. length t < length l) (sym rest) some;
-    }
-
-pub nothing_left : (l : List ℕ) → length l ≡ 0 → l ≡ []
-nothing_left [] e = refl
-nothing_left (c ∷ cs) e = absurd (omega arith)
+pub last_cut : (l : List ℕ) → 0 < length l → position is_end l ≡ None →
+    let rest : List ℕ = take (length l - length l) (drop (length l) l) in (lines l ≡ l ∷ lines rest) × (length rest < length l)
+last_cut l some none =
+    let n = position_or_len is_end l in
+    let beyond : length l ≤ n = ltb-false _ _ (not_placed _ _ none) in
+    let rest : take (length l - length l) (drop (length l) l) ≡ [] = between_to_end l (length l) (length l) (omega arith) ∙ drop_all (length l) l (omega arith) in (
+      first_line l some ∙ ap (λ first. first ∷ lines (drop (n + 1) l)) (take_all n l beyond) ∙ ap (λ r. l ∷ lines r) (drop_all (n + 1) l (omega arith) ∙ sym rest),
+      subst (λ r. length r < length l) (sym rest) some,
+    )

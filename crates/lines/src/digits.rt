@@ -33,11 +33,12 @@ pub(crate) fn word_at(line: &[u8], at: usize) -> u32
     requires { at + 7 < length line.now }
     ensures { result ≡ word_at line.now at }
 {
-    let a = u32::from(byte_at(line, at));
-    let b = u32::from(byte_at(line, at + 2));
-    let c = u32::from(byte_at(line, at + 4));
-    let d = u32::from(byte_at(line, at + 6));
-    ((a * 256 + b) * 256 + c) * 256 + d
+    u32::from_be_bytes([
+        byte_at(line, at),
+        byte_at(line, at + 2),
+        byte_at(line, at + 4),
+        byte_at(line, at + 6),
+    ])
 }
 
 // The digit that writes a value below 16.

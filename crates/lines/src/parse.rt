@@ -1,6 +1,8 @@
-ghost use Rattle.std.specs.Prelude.{◌≡◌, ◌≤◌, length};
+ghost use Rattle.std.specs.Prelude.{◌≡◌, ◌≤◌, not, is_some, length, position};
+ghost use Rattle.lines.specs.Digits.{digit};
 ghost use Rattle.lines.specs.Lines.{kind, digits, fields, first_bad, of_kind, of_digits, decoded};
-ghost use Rattle.lines.specs.declared.malformed.Malformed.TheVariants.{WrongLength};
+ghost use Rattle.std.specs.Option.{ok_or};
+ghost use Rattle.lines.specs.declared.malformed.Malformed.TheVariants.{UnknownKind, WrongLength};
 
 use crate::command::Command;
 use crate::digits::{byte_at, digit, word_at};
@@ -16,20 +18,24 @@ pub enum Kind {
     Volts,
 }
 
-impl Kind {
-    fn numbered(number: u8) -> Option<Kind>
-        ensures { result ≡ kind number }
-    {
+impl TryFrom<u8> for Kind {
+    type Error = Malformed;
+
+    ghost try_from_gives = { λ number r. r ≡ ok_or (kind number) UnknownKind };
+
+    fn try_from(number: u8) -> Result<Kind, Malformed> {
         match number {
-            1 => Some(Kind::Write),
-            2 => Some(Kind::Read),
-            3 => Some(Kind::Wire),
-            4 => Some(Kind::Run),
-            7 => Some(Kind::Volts),
-            _ => None,
+            1 => Ok(Kind::Write),
+            2 => Ok(Kind::Read),
+            3 => Ok(Kind::Wire),
+            4 => Ok(Kind::Run),
+            7 => Ok(Kind::Volts),
+            _ => Err(Malformed::UnknownKind),
         }
     }
+}
 
+impl Kind {
     // How many digits a line of this kind has.
     fn digits(self) -> usize
         ensures { result ≡ digits self }
@@ -75,54 +81,56 @@ impl Kind {
     }
 }
 
-// The column of the first character that is no digit.
-fn first_bad(line: &[u8]) -> Option<u8>
-    requires { length line.now ≤ 80 }
-    ensures { result ≡ first_bad 1 line.now }
-{
-    let mut column = 1;
-    for character in line {
-        if digit(*character).is_none() {
-            return Some(column);
+// A line of at most 80 characters.
+#[derive(Clone, Copy)]
+struct Short<'a> {
+    text: &'a [u8],
+    ghost short: { length text.now ≤ 80 },
+}
+
+impl<'a> Short<'a> {
+    // The place of the first character that is no digit.
+    fn bad_place(&self) -> Option<usize>
+        ensures { result ≡ position (λ c. not (is_some (digit c))) self.now.text.now }
+    {
+        self.text.iter().position(|c| digit(*c).is_none())
+    }
+
+    // Its column, counted from 1.
+    #[tactic(auto, using(crate::proofs::Columns::column_of_place))]
+    fn first_bad(&self) -> Option<u8>
+        ensures { result ≡ first_bad 1 self.now.text.now }
+    {
+        Some(self.bad_place()? as u8 + 1)
+    }
+
+    // The command that the line writes, if it is digits only.
+    fn of_digits(&self) -> Result<Command, Malformed>
+        ensures { result ≡ of_digits self.now.text.now }
+    {
+        if self.text.len() < 2 {
+            return Err(self.wrong_length());
         }
-        column += 1;
+        self.of_kind(Kind::try_from(byte_at(self.text, 0))?)
     }
-    None
-}
 
-// A line of at most 80 digits, by its kind.
-fn of_kind(line: &[u8], kind: Option<Kind>) -> Result<Command, Malformed>
-    requires { length line.now ≤ 80 }
-    ensures { result ≡ of_kind line.now kind }
-{
-    let Some(kind) = kind else {
-        return Err(Malformed::UnknownKind);
-    };
-    if line.len() == kind.digits() {
-        Ok(kind.fields(line))
-    } else {
-        Err(wrong_length(line))
+    // The same for a line of a kind.
+    fn of_kind(&self, kind: Kind) -> Result<Command, Malformed>
+        ensures { result ≡ of_kind self.now.text.now (Some kind) }
+    {
+        if self.text.len() == kind.digits() {
+            Ok(kind.fields(self.text))
+        } else {
+            Err(self.wrong_length())
+        }
     }
-}
 
-// A line of at most 80 digits.
-fn of_digits(line: &[u8]) -> Result<Command, Malformed>
-    requires { length line.now ≤ 80 }
-    ensures { result ≡ of_digits line.now }
-{
-    if line.len() < 2 {
-        Err(wrong_length(line))
-    } else {
-        of_kind(line, Kind::numbered(byte_at(line, 0)))
-    }
-}
-
-fn wrong_length(line: &[u8]) -> Malformed
-    requires { length line.now ≤ 80 }
-    ensures { result ≡ WrongLength (length line.now) }
-{
-    Malformed::WrongLength {
-        digits: line.len() as u8,
+    fn wrong_length(&self) -> Malformed
+        ensures { result ≡ WrongLength (length self.now.text.now) }
+    {
+        Malformed::WrongLength {
+            digits: self.text.len() as u8,
+        }
     }
 }
 
@@ -133,8 +141,9 @@ pub fn decode(line: &[u8]) -> Result<Command, Malformed>
     if line.len() > 80 {
         return Err(Malformed::TooLong);
     }
-    match first_bad(line) {
+    let line = Short { text: line };
+    match line.first_bad() {
         Some(column) => Err(Malformed::NotDigit { column }),
-        None => of_digits(line),
+        None => line.of_digits(),
     }
 }

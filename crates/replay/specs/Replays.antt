@@ -2,18 +2,18 @@
 use Rattle.std.specs.Prelude.{ℕ, ◌-◌, List, [], ◌∷◌, ◌++◌, ℤ, pos, negsuc, Ok, Err, Result}
 use Rattle.station.specs.Meaning.{Meaning}
 use Rattle.bench.specs.declared.Bench.{Bench}
-use Rattle.bench.specs.declared.refusal.Refusal.{Refusal}
+use Rattle.bench.specs.declared.refusal.Refusal.{Refusal as Turned}
 use Rattle.bench.specs.declared.request.Request.{Request}
 use Rattle.bench.specs.declared.request.Request.TheVariants.{Read, Write, Wire, Run, Until, Take, Acknowledge, Volts, Preload, Arm, Kick}
 use Rattle.bench.specs.Calls.{Answer, reply, performed}
-use Rattle.bench.specs.Refusals.{number, layer, detail}
 use Rattle.lines.specs.declared.command.Command.{Command}
 use Rattle.lines.specs.declared.command.Command.TheVariants as command
 use Rattle.lines.specs.declared.malformed.Malformed.{Malformed}
-use Rattle.lines.specs.declared.outcome.Outcome.{Outcome}
-use Rattle.lines.specs.declared.outcome.Outcome.TheVariants.{Value, Refused}
-use Rattle.lines.specs.Lines.{decoded, column, number as line_number}
+use Rattle.lines.specs.Lines.{decoded}
 use Rattle.lines.specs.Records.{record_of}
+use Rattle.replay.specs.declared.refusal.Refusal.{Refusal}
+use Rattle.replay.specs.declared.refusal.Refusal.TheVariants as refusal
+use Rattle.replay.specs.Refusals.{answer_coded}
 
 -- the call of the bench that a command is
 abbrev pub request : Command → Request
@@ -28,26 +28,30 @@ abbrev pub bits32 : ℤ → ℕ
 bits32 (pos n) = n
 bits32 (negsuc n) = 0xffff_ffff - n
 
-abbrev pub refused : Refusal → Outcome
-refused e = Refused (number e) (layer e) (detail e)
+-- what comes of a line: a word, or the refusal
+abbrev pub Outcome : Type 0
+Outcome = Result ℕ Refusal
+
+abbrev pub refused : Turned → Outcome
+refused e = Err (refusal.Bench e)
 
 abbrev pub malformed : Malformed → Outcome
-malformed e = Refused (line_number e) 1 (column e)
+malformed e = Err (refusal.Line e)
 
 -- an answer as the outcome of a line: 0 where there is no value
-abbrev pub worded : Result ℕ Refusal → Outcome
-worded (Ok n) = Value n
+abbrev pub worded : Result ℕ Turned → Outcome
+worded (Ok n) = Ok n
 worded (Err e) = refused e
 
-abbrev pub blank : Result (Unit {0}) Refusal → Outcome
-blank (Ok done) = Value 0
+abbrev pub blank : Result (Unit {0}) Turned → Outcome
+blank (Ok done) = Ok 0
 blank (Err e) = refused e
 
-abbrev pub stepped : Result ℤ Refusal → Outcome
-stepped (Ok z) = Value (bits32 z)
+abbrev pub stepped : Result ℤ Turned → Outcome
+stepped (Ok z) = Ok (bits32 z)
 stepped (Err e) = refused e
 
-abbrev pub outcome : (q : Request) → Result (Answer q) Refusal → Outcome
+abbrev pub outcome : (q : Request) → Result (Answer q) Turned → Outcome
 outcome (Read place register) r = worded r
 outcome (Write place register value) r = blank r
 outcome (Wire place wire level) r = blank r
@@ -72,7 +76,7 @@ after_line m b (Err e) = b
 -- the records of a trace's lines, and the bench after them
 unfoldable pub replayed : {S : Type 0} → Meaning S → Bench S → List (List ℕ) → List ℕ
 replayed m b [] = []
-replayed m b (l ∷ ls) = record_of (line_told m b (decoded l)) ++ replayed m (after_line m b (decoded l)) ls
+replayed m b (l ∷ ls) = record_of (answer_coded (line_told m b (decoded l))) ++ replayed m (after_line m b (decoded l)) ls
 
 unfoldable pub left_by : {S : Type 0} → Meaning S → Bench S → List (List ℕ) → Bench S
 left_by m b [] = b

@@ -1,5 +1,5 @@
 // What the encoders of the cards have counted.
-use crate::places::kind;
+use crate::kinds::KINDS;
 use bench::Bench;
 use station::Station;
 use std::fmt;
@@ -14,10 +14,9 @@ const FIRST: u8 = 0x15;
 pub fn write_counts<S: Station>(out: &mut String, bench: &mut Bench<S>) -> fmt::Result {
     writeln!(out)?;
     writeln!(out, "Encoder counts, hexadecimal")?;
-    for place in 0..bench.places() {
+    for (place, kind) in (0..bench.places()).zip(KINDS) {
         if bench.write(place, LATCH, 0xff).is_ok() {
-            let name = kind(place);
-            write!(out, "{place:>5}  {name:<5}")?;
+            write!(out, "{place:>5}  {kind:<5}")?;
             for encoder in 0..8 {
                 if let Ok(count) = bench.read(place, FIRST + encoder) {
                     write!(out, "  {count:06X}")?;

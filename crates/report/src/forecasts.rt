@@ -18,12 +18,7 @@ fn write_forecast(
         Forecast::At { tick } => {
             let at = u128::from(made).saturating_add(tick);
             let time = Microseconds::of_ticks(at);
-            let whole = time.whole;
-            let hundredths = time.hundredths;
-            writeln!(
-                out,
-                "{place:>5}  {at:>13}  {whole:>9}.{hundredths:02}  {tick:>14}"
-            )
+            writeln!(out, "{place:>5}  {at:>13}  {time:>12}  {tick:>14}")
         }
         Forecast::Never => writeln!(out, "{place:>5}  {:>13}  {:>12}  {:>14}", "never", "-", "-"),
         Forecast::Unsettled { place: other } => {
@@ -38,10 +33,7 @@ fn write_forecast(
 // What the law of falls says of each place that is not held, if the outside line stays as it was
 // last told, no wire changes and no guard call is made.
 pub fn write_forecasts<S: Station>(out: &mut String, watch: &Watch<S>) -> fmt::Result {
-    let high = match watch.rows.first() {
-        Some(row) => row.heard,
-        None => true,
-    };
+    let high = watch.rows.first().map_or(true, |row| row.heard);
     let level = if high { "high" } else { "low" };
     writeln!(out)?;
     writeln!(
@@ -49,18 +41,14 @@ pub fn write_forecasts<S: Station>(out: &mut String, watch: &Watch<S>) -> fmt::R
         "If the outside line stays {level}, no wire changes and no guard call is made:"
     )?;
     writeln!(out, "place  falls at tick            us  ticks from now")?;
-    let mut place: u8 = 0;
-    let mut all = true;
-    for row in watch.rows.iter() {
+    for (place, row) in (0..watch.bench.places()).zip(watch.rows.iter()) {
         if !row.facts.held {
-            all = false;
             if let Ok(forecast) = watch.bench.foretell(high, place) {
                 write_forecast(out, place, watch.ticks, forecast)?;
             }
         }
-        place = place.saturating_add(1);
     }
-    if all {
+    if watch.rows.iter().all(|row| row.facts.held) {
         writeln!(out, "every place is at rest already")?;
     }
     Ok(())

@@ -1,6 +1,6 @@
 // The trace itself, each line with its record.
-use lines::cutting::cut;
-use lines::outcome::Outcome;
+use lines::cutting::Lines;
+use replay::refusal::{Refusal, recorded};
 use std::fmt;
 use std::fmt::Write;
 
@@ -16,30 +16,26 @@ fn write_shown(out: &mut String, line: &[u8]) -> fmt::Result {
     Ok(())
 }
 
-fn write_record(out: &mut String, outcome: Outcome) -> fmt::Result {
-    let record = outcome.record();
-    for byte in &record[0..10] {
+fn write_record(out: &mut String, outcome: Result<u32, Refusal>) -> fmt::Result {
+    for byte in &recorded(outcome)[0..10] {
         out.write_char(char::from(*byte))?;
     }
     Ok(())
 }
 
 // Each line of the trace, numbered from 1, and what it answers.
-pub fn write_trace(out: &mut String, trace: &[u8], outcomes: &[Outcome]) -> fmt::Result {
+pub fn write_trace(
+    out: &mut String,
+    trace: &[u8],
+    outcomes: &[Result<u32, Refusal>],
+) -> fmt::Result {
     writeln!(out, "  line  answer      trace")?;
-    let mut rest = trace;
-    let mut number: u64 = 0;
-    for outcome in outcomes {
-        let Some((line, after)) = cut(rest) else {
-            return Ok(());
-        };
-        number = number.saturating_add(1);
+    for (number, (line, outcome)) in (1..=outcomes.len()).zip(Lines::of(trace).zip(outcomes)) {
         write!(out, "{number:>6}  ")?;
         write_record(out, *outcome)?;
         write!(out, "  ")?;
         write_shown(out, line)?;
         writeln!(out)?;
-        rest = after;
     }
     Ok(())
 }

@@ -10,13 +10,11 @@ use std::io::Read;
 
 mod counts;
 mod forecasts;
+mod kinds;
 mod listing;
 mod places;
 mod refusals;
 mod units;
-
-// The kinds of the stations at the three places.
-pub const KINDS: [&str; 3] = ["card", "drive", "card"];
 
 fn run(rt: &HostRuntime) -> anyhow::Result<()> {
     let heap = rt.alloc();

@@ -27,6 +27,7 @@ impl fmt::Display for Microseconds {
     fn fmt<W: fmt::Write>(&self, f: &mut fmt::Formatter<W>) -> fmt::Result {
         let whole = self.whole;
         let hundredths = self.hundredths;
-        write!(f, "{whole}.{hundredths:02}")
+        let text = fmt::InlineText::<48>::of(format_args!("{whole}.{hundredths:02}"));
+        f.pad(text.as_str())
     }
 }

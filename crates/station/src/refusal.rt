@@ -1,5 +1,9 @@
-ghost use Rattle.std.specs.Prelude.{◌≡◌};
+ghost use Rattle.std.specs.Prelude.{◌≡◌, Some, codes};
 ghost use Rattle.station.specs.Numbers.{number};
+ghost use Rattle.station.specs.declared.refusal.Refusal.TheVariants.{NoSuch, WriteOnly, ReadOnly, NotAllowed};
+
+use std::error::Error;
+use std::fmt;
 
 // Why a station turns a call down.
 #[derive(Clone, Copy, PartialEq, Eq, Debug)]
@@ -27,3 +31,24 @@ impl Refusal {
         }
     }
 }
+
+// What the refusal means, for people.
+impl fmt::Display for Refusal {
+    ghost output = { elim [
+      | NoSuch ↦ Some (codes "there is no such register, wire or channel at that place")
+      | WriteOnly ↦ Some (codes "that register can only be written")
+      | ReadOnly ↦ Some (codes "that register can only be read")
+      | NotAllowed ↦ Some (codes "a reserved bit is set, or the value is too wide")
+    ] };
+
+    fn fmt<W: fmt::Write>(&self, f: &mut fmt::Formatter<W>) -> fmt::Result {
+        f.write_str(match self {
+            Refusal::NoSuch => "there is no such register, wire or channel at that place",
+            Refusal::WriteOnly => "that register can only be written",
+            Refusal::ReadOnly => "that register can only be read",
+            Refusal::NotAllowed => "a reserved bit is set, or the value is too wide",
+        })
+    }
+}
+
+impl Error for Refusal {}

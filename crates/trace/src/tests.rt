@@ -1,6 +1,7 @@
 // Lines of every kind, good and bad, with the records that they answer.
 use promise::lift::new_lift;
 use promise::set_up;
+use replay::refusal::recorded;
 use replay::replay_line;
 use std::process::Abort;
 
@@ -88,7 +89,7 @@ const LINES: [(&[u8], &[u8; 11]); 70] = [
 fn answers(rt: &impl Abort, table: &[(&[u8], &[u8; 11])]) {
     let mut bench = set_up(new_lift());
     for (line, record) in table {
-        assert_eq!(rt; replay_line(&mut bench, line).record(), **record);
+        assert_eq!(rt; recorded(replay_line(&mut bench, line)), **record);
     }
 }
 

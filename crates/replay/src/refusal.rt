@@ -1,0 +1,79 @@
+ghost use Rattle.std.specs.Prelude.{◌≡◌};
+ghost use Rattle.lines.specs.Records.{record_of};
+ghost use Rattle.replay.specs.Refusals.{coded, answer_coded};
+ghost use Rattle.replay.specs.declared.refusal.Refusal.TheVariants.{Line, Bench};
+
+use bench::refusal::Refusal as Turned;
+use lines::malformed::Malformed;
+use lines::record::{Coded, record};
+use std::error::Error;
+use std::fmt;
+
+// Why a line of a trace is refused.
+#[derive(Clone, Copy, PartialEq, Eq, Debug)]
+pub enum Refusal {
+    // It is no command.
+    Line(Malformed),
+    // The bench turned its command down.
+    Bench(Turned),
+}
+
+impl Refusal {
+    // The refusal as a record carries it. Layer 1 reads the lines.
+    pub fn coded(self) -> Coded
+        ensures { result ≡ coded self }
+    {
+        match self {
+            Refusal::Line(malformed) => Coded {
+                number: malformed.number(),
+                layer: 1,
+                at: malformed.column(),
+            },
+            Refusal::Bench(refusal) => Coded {
+                number: refusal.number(),
+                layer: refusal.layer(),
+                at: u16::from(refusal.place()),
+            },
+        }
+    }
+}
+
+// The record of what came of a line.
+pub fn recorded(outcome: Result<u32, Refusal>) -> [u8; 11]
+    ensures { result ≡ record_of (answer_coded outcome) }
+{
+    record(outcome.map_err(Refusal::coded))
+}
+
+impl From<Malformed> for Refusal {
+    ghost from_gives = { λ why refusal. refusal ≡ Line why };
+
+    fn from(why: Malformed) -> Refusal {
+        Refusal::Line(why)
+    }
+}
+
+impl From<Turned> for Refusal {
+    ghost from_gives = { λ why refusal. refusal ≡ Bench why };
+
+    fn from(why: Turned) -> Refusal {
+        Refusal::Bench(why)
+    }
+}
+
+// What the refusal means, for people.
+impl fmt::Display for Refusal {
+    ghost output = { elim [
+      | Line why ↦ ⟦<Malformed as fmt::Display>⟧.output why
+      | Bench why ↦ ⟦<Turned as fmt::Display>⟧.output why
+    ] };
+
+    fn fmt<W: fmt::Write>(&self, f: &mut fmt::Formatter<W>) -> fmt::Result {
+        match self {
+            Refusal::Line(malformed) => write!(f, "{malformed}"),
+            Refusal::Bench(refusal) => write!(f, "{refusal}"),
+        }
+    }
+}
+
+impl Error for Refusal {}
