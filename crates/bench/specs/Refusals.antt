@@ -1,4 +1,4 @@
--- The number of each refusal of the bench, the layer that it comes from, and the place that it names.
+-- The number of each refusal of the bench, and the place that it names.
 use Rattle.std.specs.Prelude.{ℕ}
 use Rattle.station.specs.Numbers.{number as turned_number}
 use Rattle.bench.specs.declared.refusal.Refusal.{Refusal}
@@ -11,10 +11,6 @@ number TooMany = 6
 number (NothingPending place) = 7
 number (ServiceOpen place) = 8
 number (NoService place) = 9
-
-abbrev pub layer : Refusal → ℕ
-layer (Station place why) = 3
-layer r = 2
 
 abbrev pub detail : Refusal → ℕ
 detail (NoPlace place) = place

@@ -1,5 +1,5 @@
 ghost use Rattle.std.specs.Prelude.{◌≡◌, Some, codes};
-ghost use Rattle.bench.specs.Refusals.{number, layer, detail};
+ghost use Rattle.bench.specs.Refusals.{number, detail};
 ghost use Rattle.bench.specs.declared.refusal.Refusal.TheVariants.{NoPlace, Station, TooMany, NothingPending, ServiceOpen, NoService};
 
 use station::refusal::Refusal as Turned;
@@ -38,27 +38,17 @@ impl Refusal {
         }
     }
 
-    // The layer that refused: 3 is the station, 2 the bench.
-    pub fn layer(self) -> u8
-        ensures { result ≡ layer self }
-    {
-        match self {
-            Refusal::Station { .. } => 3,
-            _ => 2,
-        }
-    }
-
     // The place that was asked for, 0 where the call names none.
     pub fn place(self) -> u8
         ensures { result ≡ detail self }
     {
         match self {
-            Refusal::NoPlace { place } => place,
-            Refusal::Station { place, .. } => place,
+            Refusal::NoPlace { place }
+            | Refusal::Station { place, .. }
+            | Refusal::NothingPending { place }
+            | Refusal::ServiceOpen { place }
+            | Refusal::NoService { place } => place,
             Refusal::TooMany => 0,
-            Refusal::NothingPending { place } => place,
-            Refusal::ServiceOpen { place } => place,
-            Refusal::NoService { place } => place,
         }
     }
 }

@@ -1,7 +1,14 @@
 -- The record of a line's answer: two digits of a number, eight of a word, and the end of the line.
 use Rattle.std.specs.Prelude.{ℕ, ◌+◌, ◌*◌, ◌/◌, ◌%◌, List, [], ◌∷◌, ◌++◌, Ok, Err, Result}
 use Rattle.lines.specs.declared.record.Coded.{Coded}
+use Rattle.lines.specs.declared.record.Layer.{Layer}
+use Rattle.lines.specs.declared.record.Layer.TheVariants.{Line, Bench, Station}
 use Rattle.lines.specs.Digits.{letter}
+
+abbrev pub layer_number : Layer → ℕ
+layer_number Line = 1
+layer_number Bench = 2
+layer_number Station = 3
 
 abbrev pub number_of : Result ℕ Coded → ℕ
 number_of (Ok word) = 0
@@ -10,7 +17,7 @@ number_of (Err refusal) = refusal.number
 -- a refusal's layer stands in the first two digits, its place or column in the last four
 abbrev pub word_of : Result ℕ Coded → ℕ
 word_of (Ok word) = word
-word_of (Err refusal) = refusal.layer * 0x1000000 + refusal.at
+word_of (Err refusal) = layer_number refusal.layer * 0x1000000 + refusal.at
 
 -- the two digits of a byte, the higher one first
 abbrev pub two : ℕ → List ℕ

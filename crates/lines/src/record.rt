@@ -1,13 +1,33 @@
 ghost use Rattle.std.specs.Prelude.{◌≡◌};
-ghost use Rattle.lines.specs.Records.{number_of, word_of, two, record_of};
+ghost use Rattle.lines.specs.Records.{layer_number, number_of, word_of, two, record_of};
 
 use crate::digits::letter;
 
-// A refusal as its record carries it: a number of a layer, and a place or a column.
+// The layer that turns a line down: what reads the lines, the bench, or a station.
+#[derive(Clone, Copy, PartialEq, Eq, Debug)]
+pub enum Layer {
+    Line,
+    Bench,
+    Station,
+}
+
+impl From<Layer> for u32 {
+    ghost from_gives = { λ layer number. number ≡ layer_number layer };
+
+    fn from(layer: Layer) -> u32 {
+        match layer {
+            Layer::Line => 1,
+            Layer::Bench => 2,
+            Layer::Station => 3,
+        }
+    }
+}
+
+// A refusal as its record carries it: its number, its layer, and a place or a column.
 #[derive(Clone, Copy, PartialEq, Eq, Debug)]
 pub struct Coded {
     pub number: u8,
-    pub layer: u8,
+    pub layer: Layer,
     pub at: u16,
 }
 

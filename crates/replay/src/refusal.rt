@@ -1,11 +1,11 @@
 ghost use Rattle.std.specs.Prelude.{◌≡◌};
 ghost use Rattle.lines.specs.Records.{record_of};
-ghost use Rattle.replay.specs.Refusals.{coded, answer_coded};
+ghost use Rattle.replay.specs.Refusals.{layer, coded, answer_coded};
 ghost use Rattle.replay.specs.declared.refusal.Refusal.TheVariants.{Line, Bench};
 
 use bench::refusal::Refusal as Turned;
 use lines::malformed::Malformed;
-use lines::record::{Coded, record};
+use lines::record::{Coded, Layer, record};
 use std::error::Error;
 use std::fmt;
 
@@ -19,21 +19,29 @@ pub enum Refusal {
 }
 
 impl Refusal {
-    // The refusal as a record carries it. Layer 1 reads the lines.
+    // The layer that refused.
+    pub fn layer(self) -> Layer
+        ensures { result ≡ layer self }
+    {
+        match self {
+            Refusal::Line(_) => Layer::Line,
+            Refusal::Bench(Turned::Station { .. }) => Layer::Station,
+            Refusal::Bench(_) => Layer::Bench,
+        }
+    }
+
+    // The refusal as a record carries it.
     pub fn coded(self) -> Coded
         ensures { result ≡ coded self }
     {
-        match self {
-            Refusal::Line(malformed) => Coded {
-                number: malformed.number(),
-                layer: 1,
-                at: malformed.column(),
-            },
-            Refusal::Bench(refusal) => Coded {
-                number: refusal.number(),
-                layer: refusal.layer(),
-                at: u16::from(refusal.place()),
-            },
+        let (number, at) = match self {
+            Refusal::Line(malformed) => (malformed.number(), malformed.column()),
+            Refusal::Bench(refusal) => (refusal.number(), u16::from(refusal.place())),
+        };
+        Coded {
+            number,
+            layer: self.layer(),
+            at,
         }
     }
 }
