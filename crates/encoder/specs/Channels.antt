@@ -1,7 +1,7 @@
 -- One encoder.
 use Rattle.std.specs.Prelude.{◌+◌, Bool, true, false, cond, not, ◌||◌, ◌==◌}
-use Rattle.bits.specs.Counts.{count_of}
-use Rattle.bits.specs.declared.count.Count.{Count}
+use Rattle.bits.specs.Numbers.{count_of}
+use Rattle.bits.specs.declared.number.UpTo.{UpTo}
 use Rattle.encoder.specs.declared.channel.Encoder.{Encoder}
 use Rattle.encoder.specs.declared.turn.Levels.{Levels}
 use Rattle.encoder.specs.declared.turn.Turn.{Turn}
@@ -20,7 +20,7 @@ fresh = record {
   lost = false;
 }
 
-abbrev pub preset_to : Encoder → Count → Encoder
+abbrev pub preset_to : Encoder → UpTo 0xffffff → Encoder
 preset_to e n = record {
   wires = e.wires;
   sample = e.sample;
@@ -44,7 +44,7 @@ wired e levels = record {
   lost = e.lost;
 }
 
-abbrev with_count : Encoder → Count → Bool → Encoder
+abbrev with_count : Encoder → UpTo 0xffffff → Bool → Encoder
 with_count e n wraps = record {
   wires = e.wires;
   sample = e.sample;

@@ -2,7 +2,7 @@ ghost use Rattle.std.specs.Prelude.{◌≡◌};
 ghost use Rattle.encoder.specs.Channels.{fresh, preset_to, wired, counted, moved, stepped, with_latch, with_load, with_clear, commanded};
 
 use crate::turn::{Levels, Turn, turned};
-use bits::count::Count;
+use bits::number::Count;
 
 // One encoder.
 #[derive(Clone, Copy)]
@@ -63,7 +63,7 @@ impl Encoder {
     pub(crate) fn moved(self) -> bool
         ensures { result ≡ moved self }
     {
-        (self.wires.a != self.sample.a) | (self.wires.b != self.sample.b)
+        self.wires != self.sample
     }
 
     // One tick: the wires are sampled, and what changed since the sample before counts.
