@@ -1,6 +1,6 @@
 -- What a write makes of the board.
 use Rattle.std.specs.Prelude.{ℕ, ◌/◌, ◌%◌, Bool, cond, List, slice_index_or, slice_set}
-use Rattle.bits.specs.Counts.{count_of}
+use Rattle.bits.specs.Numbers.{count_of}
 use Rattle.bits.specs.Words.{bit}
 use Rattle.converter.specs.Chips.{on, cleared}
 use Rattle.converter.specs.declared.chip.Chip.{Chip}
@@ -14,8 +14,7 @@ use Rattle.guards.specs.Senses.{with_active, cleared_fall}
 use Rattle.guards.specs.Watchdogs.{with_preload, cleared_rise, controlled as set_watchdog}
 use Rattle.guards.specs.declared.port.Port.{Port}
 use Rattle.guards.specs.declared.watchdog.Watchdog.{Watchdog}
-use Rattle.outputs.specs.Channels.{updated, latched}
-use Rattle.outputs.specs.Modes.{modes_of}
+use Rattle.outputs.specs.Channels.{updated, latched, moded as modes_set}
 use Rattle.outputs.specs.declared.channels.Outputs.{Outputs}
 use Rattle.board.specs.declared.parts.Board.{Board}
 use Rattle.board.specs.declared.register.Register.{Register}
@@ -151,7 +150,7 @@ abbrev pub guarded : Board → ℕ → Board
 guarded b value = with_watchdog b (set_watchdog b.watchdog (bit value 8) (bit value 12) (bit value 14) (bit value 15))
 
 abbrev pub moded : Board → ℕ → Board
-moded b value = with_outputs b (record { latches = b.outputs.latches; codes = b.outputs.codes; modes = modes_of value })
+moded b value = with_outputs b (modes_set b.outputs value)
 
 abbrev pub enabled_encoders : Board → ℕ → Board
 enabled_encoders b value = with_encoders b (each (with_enable value) 0 b.encoders)

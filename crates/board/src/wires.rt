@@ -56,14 +56,13 @@ impl Board {
     fn with_levels(self, number: u8, level: u32) -> Board
         ensures { result ≡ with_levels self (number % 8) level }
     {
-        let n = (number % 8) as usize;
+        let n = usize::from(number % 8);
         let levels = Levels {
             a: bit(level, 0),
             b: bit(level, 1),
         };
         let mut encoders = self.encoders;
-        let old = encoders[n];
-        encoders[n] = old.with_wires(levels);
+        encoders[n] = encoders[n].with_wires(levels);
         Board { encoders, ..self }
     }
 

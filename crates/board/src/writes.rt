@@ -3,12 +3,10 @@ ghost use Rattle.board.specs.Writes.{started, status_cleared, controlled, guarde
 
 use crate::parts::Board;
 use crate::register::Register;
-use bits::count::Count;
+use bits::number::Count;
 use bits::words::bit;
 use converter::chip::{Chip, Event};
 use encoder::eight::{clear_all, command_all, enable_all};
-use outputs::channels::Outputs;
-use outputs::mode::modes_of;
 
 // A chip, started where that is asked for.
 fn started(chip: Chip, start: bool, mask: u8, wires: [u16; 4]) -> Chip
@@ -77,15 +75,10 @@ impl Board {
     fn moded(self, value: u32) -> Board
         ensures { result ≡ moded self value }
     {
-        let modes = modes_of(value);
-        let latches = self.outputs.latches;
-        let codes = self.outputs.codes;
-        let outputs = Outputs {
-            latches,
-            codes,
-            modes,
-        };
-        Board { outputs, ..self }
+        Board {
+            outputs: self.outputs.moded(value),
+            ..self
+        }
     }
 
     fn enabled_encoders(self, value: u32) -> Board
@@ -107,10 +100,9 @@ impl Board {
     fn with_preset(self, number: u8, value: u32) -> Board
         ensures { result ≡ with_preset self (number % 8) value }
     {
-        let n = (number % 8) as usize;
+        let n = usize::from(number % 8);
         let mut encoders = self.encoders;
-        let old = encoders[n];
-        encoders[n] = old.with_preset(Count::of(value));
+        encoders[n] = encoders[n].with_preset(Count::of(value));
         Board { encoders, ..self }
     }
 
