@@ -53,7 +53,7 @@ impl Board {
         }
     }
 
-    fn with_levels(self, number: u8, level: u32) -> Board
+    fn with_levels(mut self, number: u8, level: u32) -> Board
         ensures { result ≡ with_levels self (number % 8) level }
     {
         let n = usize::from(number % 8);
@@ -61,9 +61,8 @@ impl Board {
             a: bit(level, 0),
             b: bit(level, 1),
         };
-        let mut encoders = self.encoders;
-        encoders[n] = encoders[n].with_wires(levels);
-        Board { encoders, ..self }
+        self.encoders[n] = self.encoders[n].with_wires(levels);
+        self
     }
 
     // The board after a wire is set, if the level is not too wide for it.

@@ -81,29 +81,26 @@ impl Board {
         }
     }
 
-    fn enabled_encoders(self, value: u32) -> Board
+    fn enabled_encoders(mut self, value: u32) -> Board
         ensures { result ≡ enabled_encoders self value }
     {
-        let mut encoders = self.encoders;
-        enable_all(&mut encoders, value);
-        Board { encoders, ..self }
+        enable_all(&mut self.encoders, value);
+        self
     }
 
-    fn commanded(self, value: u32) -> Board
+    fn commanded(mut self, value: u32) -> Board
         ensures { result ≡ commanded self value }
     {
-        let mut encoders = self.encoders;
-        command_all(&mut encoders, value);
-        Board { encoders, ..self }
+        command_all(&mut self.encoders, value);
+        self
     }
 
-    fn with_preset(self, number: u8, value: u32) -> Board
+    fn with_preset(mut self, number: u8, value: u32) -> Board
         ensures { result ≡ with_preset self (number % 8) value }
     {
         let n = usize::from(number % 8);
-        let mut encoders = self.encoders;
-        encoders[n] = encoders[n].with_preset(Count::of(value));
-        Board { encoders, ..self }
+        self.encoders[n] = self.encoders[n].with_preset(Count::of(value));
+        self
     }
 
     // The board after an allowed write.
