@@ -19,8 +19,8 @@ pub enum Turn {
 }
 
 // Old and new levels to a turn. The old levels pick a row and the new ones a column; in each A
-// counts 1 and B counts 2. A and B at 00, 10, 11, 01 and again 00 count up. A table, since the rules of
-// the project name a constant table of sixteen transitions.
+// counts 1 and B counts 2. A and B at 00, 10, 11, 01 and again 00 count up.
+// A table: the rules of the project ask for a constant table of sixteen transitions.
 const TURNS: [Turn; 16] = [
     Turn::Still,
     Turn::Up,
