@@ -1,10 +1,10 @@
 -- Digits that are shifted into a word one after another, the last first.
-use Rattle.std.proofs.Common.{◌≡◌, ℕ, ◌+◌, ◌*◌, ◌%◌, ◌^◌, ◌<◌, ◌≤◌, Bool, true, false, List, [], ◌∷◌, length, reverse, fold, bit_or, refl, ap, ◌∙◌, arith}
+use Rattle.std.proofs.Common.{◌≡◌, ℕ, zero as none, suc, ◌+◌, ◌*◌, ◌/◌, ◌%◌, ◌^◌, ◌<◌, ◌≤◌, Bool, true, false, List, [], ◌∷◌, length, get_or, reverse, fold, bit_or, sym, refl, ap, ◌∙◌, arith}
 use Rattle.std.specs.Int.{from_bool}
-use Rattle.std.proofs.Math.Nat.{suc-mul, mul_comm}
+use Rattle.std.proofs.Math.Nat.{div-div-eq-div-mul, div-one, mul_comm, pow-succ', pow-zero, suc-mul}
 use Rattle.std.proofs.lemmas.List.{reverse-append}
 use Rattle.std.proofs.lemmas.List.Sums.{fold_push}
-use Rattle.std.proofs.lemmas.Nat.{mul-add-lt, or_shifted, pow-add, pow_pos, shl_whole}
+use Rattle.std.proofs.lemmas.Nat.{div-mul-add, mod-mul-add, mul-add-lt, or_shifted, pow-add, pow_pos, shl_whole}
 use Rattle.bits.specs.Words.{digits}
 
 module _ {X : Type 0} (step width : ℕ) (f : X → ℕ) where
@@ -30,6 +30,23 @@ module _ {X : Type 0} (step width : ℕ) (f : X → ℕ) where
       ∙ ap (λ word. bit_or word (f x)) (shl_whole d (length xs * step) step width (digits_below small xs) fits)
       ∙ or_shifted d step (f x) (small x)
       ∙ omega (arith, mul_comm d (2 ^ step))
+
+-- a digit of each in its place
+module _ {X : Type 0} (base : ℕ) (f : X → ℕ) (small : (x : X) → f x < base) where
+  pub digits_at : (xs : List X) (n : ℕ) (d : X) → n < length xs → digits base f xs / base ^ n % base ≡ f (get_or xs n d)
+  digits_at [] n d h = absurd (omega arith)
+  digits_at (x ∷ xs) none d h =
+      let left = digits base f xs in
+      let turned : f x + base * left ≡ left * base + f x = omega (arith, mul_comm base left) in
+      ap (λ v. v / base ^ 0 % base) turned ∙ rw (pow-zero, div-one) (mod-mul-add left base (f x) (small x))
+  digits_at (x ∷ xs) (suc n) d h =
+      let left = digits base f xs in
+      let turned : f x + base * left ≡ left * base + f x = omega (arith, mul_comm base left) in
+      ap (λ v. v / base ^ suc n % base) turned
+      ∙ ap (λ p. (left * base + f x) / p % base) (pow-succ' base n)
+      ∙ ap (λ v. v % base) (sym (div-div-eq-div-mul (left * base + f x) base (base ^ n)))
+      ∙ ap (λ v. v / base ^ n % base) (div-mul-add left base (f x) (small x))
+      ∙ digits_at xs n d (omega arith)
 
 -- a flag is a digit
 pub flag_small : (step : ℕ) (b : Bool) → from_bool b < 2 ^ (step + 1)

@@ -1,7 +1,9 @@
 -- The table of turns, entry by entry.
-use Rattle.std.proofs.Common.{◌≡◌, ◌+◌, ◌*◌, Bool, true, false, List, [], ◌∷◌, get_or, refl}
+use Rattle.std.proofs.Common.{◌≡◌, ◌+◌, ◌*◌, Bool, true, false, List, [], ◌∷◌, get_or, refl, arith}
+use Rattle.encoder.specs.declared.channel.Encoder.{Encoder}
 use Rattle.encoder.specs.declared.turn.Turn.{Turn}
 use Rattle.encoder.specs.declared.turn.Turn.TheVariants.{Still, Up, Down, Lost}
+use Rattle.encoder.specs.Channels.{moved, stepped}
 use Rattle.encoder.specs.Turns.{place, turn}
 
 abbrev pub table : List Turn
@@ -25,3 +27,7 @@ rows true true false false d = refl
 rows true true false true d = refl
 rows true true true false d = refl
 rows true true true true d = refl
+
+-- the tick of an encoder that has not turned
+pub unmoved : (e : Encoder) → moved e ≡ false → e ≡ stepped e
+unmoved e still = grind arith
