@@ -2,12 +2,8 @@
 use mathlib.Core.Path.{◌≡◌}
 use mathlib.Core.HLevel.{is_prop→PathP}
 use native.Mathlib.Bridge.{le_prop}
-use Prim.Native.Nat.{◌<◌}
-use Rattle.bits.specs.declared.code.Code.{Code}
-use Rattle.bits.specs.declared.count.Count.{Count}
+use Prim.Native.Nat.{ℕ, ◌≤◌}
+use Rattle.bits.specs.declared.number.UpTo.{UpTo}
 
-pub same_code : (a b : Code) → a.value ≡ b.value → a ≡ b
-same_code a b p = λ i. record { value = p i; small = is_prop→PathP (λ j. p j < 0x1000) (λ j. le_prop) a.small b.small i }
-
-pub same_count : (a b : Count) → a.value ≡ b.value → a ≡ b
-same_count a b p = λ i. record { value = p i; small = is_prop→PathP (λ j. p j < 0x1000000) (λ j. le_prop) a.small b.small i }
+pub same_number : {most : ℕ} (a b : UpTo most) → a.value ≡ b.value → a ≡ b
+same_number {most} a b p = λ i. record { value = p i; small = is_prop→PathP (λ j. p j ≤ most) (λ j. le_prop) a.small b.small i }

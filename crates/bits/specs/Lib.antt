@@ -1,3 +1,2 @@
-pub mod Codes
-pub mod Counts
+pub mod Numbers
 pub mod Words

@@ -1,6 +1,5 @@
 -- What a register reads.
 use Rattle.std.specs.Prelude.{ℕ, ◌+◌, ◌*◌, ◌%◌, Bool, true, false, not, Ok, Err, Result, slice_index_or}
-use Rattle.bits.specs.Codes.{code_of}
 use Rattle.bits.specs.Words.{weight}
 use Rattle.converter.specs.Chips.{read_of, moved_on}
 use Rattle.converter.specs.declared.chip.Phase.{Phase}
@@ -8,6 +7,7 @@ use Rattle.converter.specs.declared.chip.Phase.TheVariants.{Idle, Converting}
 use Rattle.encoder.specs.Channels.{fresh}
 use Rattle.encoder.specs.Each.{gathered, gathered_by}
 use Rattle.guards.specs.Ports.{seen}
+use Rattle.outputs.specs.Channels.{idle, modes}
 use Rattle.outputs.specs.Modes.{bits_of}
 use Rattle.station.specs.declared.refusal.Refusal.{Refusal}
 use Rattle.station.specs.declared.refusal.Refusal.TheVariants.{WriteOnly}
@@ -47,7 +47,7 @@ guard b = 0x100 * weight b.watchdog.enabled + 0x4000 * weight b.watchdog.active 
 
 -- a read of the codes gives the latches
 abbrev pub codes_at : Board → ℕ → ℕ
-codes_at b n = (slice_index_or b.outputs.latches n (code_of 0)).value + 0x10000 * (slice_index_or b.outputs.latches (4 + n) (code_of 0)).value
+codes_at b n = (slice_index_or b.outputs.channels n idle).latch.value + 0x10000 * (slice_index_or b.outputs.channels (4 + n) idle).latch.value
 
 abbrev pub preset_latch : Board → ℕ → ℕ
 preset_latch b n = (slice_index_or b.encoders n fresh).latch.value
@@ -68,7 +68,7 @@ fetched b Direction = Ok b.port.direction
 fetched b Results = Ok ((results b).0 + 0x10000 * (results b).1)
 fetched b (Codes pair) = Ok (codes_at b (pair % 4))
 fetched b Update = Err WriteOnly
-fetched b Modes = Ok (bits_of b.outputs.modes)
+fetched b Modes = Ok (bits_of (modes b.outputs))
 fetched b EncoderModes = Ok (gathered_by 16 (λ e. e.enabled) b.encoders)
 fetched b EncoderCommand = Err WriteOnly
 fetched b (Encoder n) = Ok (preset_latch b (n % 8))

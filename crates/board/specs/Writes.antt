@@ -1,6 +1,6 @@
 -- What a write makes of the board.
 use Rattle.std.specs.Prelude.{ℕ, ◌/◌, ◌%◌, List, slice_index_or, slice_set}
-use Rattle.bits.specs.Counts.{count_of}
+use Rattle.bits.specs.Numbers.{count_of}
 use Rattle.bits.specs.Words.{bit}
 use Rattle.converter.specs.Chips.{cleared}
 use Rattle.converter.specs.Inputs.{controlled as select}
@@ -13,8 +13,7 @@ use Rattle.guards.specs.Senses.{with_active, cleared_fall}
 use Rattle.guards.specs.Watchdogs.{with_preload, cleared_rise, controlled as set_watchdog}
 use Rattle.guards.specs.declared.port.Port.{Port}
 use Rattle.guards.specs.declared.watchdog.Watchdog.{Watchdog}
-use Rattle.outputs.specs.Channels.{updated, latched}
-use Rattle.outputs.specs.Modes.{modes_of}
+use Rattle.outputs.specs.Channels.{updated, latched, moded as modes_set}
 use Rattle.outputs.specs.declared.channels.Outputs.{Outputs}
 use Rattle.board.specs.declared.parts.Board.{Board}
 use Rattle.board.specs.declared.register.Register.{Register}
@@ -60,7 +59,7 @@ abbrev pub guarded : Board → ℕ → Board
 guarded b value = with_watchdog b (set_watchdog b.watchdog (record { enabled = bit value 8; load = bit value 12; active = bit value 14; selected = bit value 15 }))
 
 abbrev pub moded : Board → ℕ → Board
-moded b value = with_outputs b (record b.outputs { modes = modes_of value })
+moded b value = with_outputs b (modes_set b.outputs value)
 
 abbrev pub enabled_encoders : Board → ℕ → Board
 enabled_encoders b value = with_encoders b (each (with_enable value) 0 b.encoders)

@@ -3,7 +3,6 @@ ghost use Rattle.board.specs.Reads.{is_idle, chip_bits, interrupts, control, sta
 
 use crate::parts::Board;
 use crate::register::Register;
-use bits::words::weight;
 use converter::chip::Phase;
 use encoder::eight::{enables, losses, wraps};
 use outputs::mode::bits_of;
@@ -21,22 +20,21 @@ impl Board {
         ensures value { result ≡ chip_bits self.now }
         ensures bound { result < 16 }
     {
-        weight(self.low.chip.ended)
-            + 2 * weight(self.high.chip.ended)
-            + 4 * weight(self.low.chip.done)
-            + 8 * weight(self.high.chip.done)
+        u32::from(self.low.chip.ended)
+            + 2 * u32::from(self.high.chip.ended)
+            + 4 * u32::from(self.low.chip.done)
+            + 8 * u32::from(self.high.chip.done)
     }
 
     // The interrupts that have come.
     pub fn interrupts(&self) -> u32
         ensures { result ≡ interrupts self.now }
     {
-        let guards = weight(self.watchdog.rose)
-            + 2 * weight(self.sense.fell)
-            + 4 * weight(self.fuse.blown);
-        let encoders = self.encoders;
-        wraps(&encoders)
-            + 0x100 * losses(&encoders)
+        let guards = u32::from(self.watchdog.rose)
+            + 2 * u32::from(self.sense.fell)
+            + 4 * u32::from(self.fuse.blown);
+        u32::from(wraps(&self.encoders))
+            + 0x100 * u32::from(losses(&self.encoders))
             + 0x1_0000 * self.chip_bits()
             + 0x20_0000 * guards
     }
@@ -46,38 +44,38 @@ impl Board {
     {
         let low = self.low.select;
         let high = self.high.select;
-        weight(self.sense.active) + 0x100 * u32::from(low) + 0x1_0000 * u32::from(high)
+        u32::from(self.sense.active) + 0x100 * u32::from(low) + 0x1_0000 * u32::from(high)
     }
 
     fn status(&self) -> u32
         ensures { result ≡ status self.now }
     {
-        let chips = weight(idle(self.low.chip.phase)) + 2 * weight(idle(self.high.chip.phase));
-        let sampled = weight(self.fuse.sample) + 2 * weight(!self.sense.high);
-        let guards = weight(self.watchdog.output) + 2 * weight(self.held());
+        let chips = u32::from(idle(self.low.chip.phase))
+            + 2 * u32::from(idle(self.high.chip.phase));
+        let sampled = u32::from(self.fuse.sample) + 2 * u32::from(!self.sense.high);
+        let guards = u32::from(self.watchdog.output) + 2 * u32::from(self.held());
         chips + 0x10 * sampled + 0x100 * guards
     }
 
     fn guard(&self) -> u32
         ensures { result ≡ guard self.now }
     {
-        0x100 * weight(self.watchdog.enabled)
-            + 0x4000 * weight(self.watchdog.active)
-            + 0x8000 * weight(self.watchdog.selected)
+        0x100 * u32::from(self.watchdog.enabled)
+            + 0x4000 * u32::from(self.watchdog.active)
+            + 0x8000 * u32::from(self.watchdog.selected)
     }
 
     fn codes_at(&self, pair: u8) -> u32
         ensures { result ≡ codes_at self.now (pair % 4) }
     {
-        let n = (pair % 4) as usize;
-        u32::from(self.outputs.latches[n].value)
-            + 0x1_0000 * u32::from(self.outputs.latches[4 + n].value)
+        let n = usize::from(pair % 4);
+        self.outputs.channels[n].latch.value + 0x1_0000 * self.outputs.channels[4 + n].latch.value
     }
 
     fn preset_latch(&self, number: u8) -> u32
         ensures { result ≡ preset_latch self.now (number % 8) }
     {
-        self.encoders[(number % 8) as usize].latch.value
+        self.encoders[usize::from(number % 8)].latch.value
     }
 
     // The results of both chips.
@@ -105,14 +103,8 @@ impl Board {
                 Ok(u32::from(low) + 0x1_0000 * u32::from(high))
             }
             Register::Codes { pair } => Ok(self.codes_at(pair)),
-            Register::Modes => {
-                let modes = self.outputs.modes;
-                Ok(bits_of(modes))
-            }
-            Register::EncoderModes => {
-                let encoders = self.encoders;
-                Ok(enables(&encoders))
-            }
+            Register::Modes => Ok(bits_of(self.outputs.modes())),
+            Register::EncoderModes => Ok(enables(&self.encoders)),
             Register::Update | Register::EncoderCommand => Err(Refusal::WriteOnly),
             Register::Encoder { number } => Ok(self.preset_latch(number)),
         }

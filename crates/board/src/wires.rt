@@ -49,18 +49,16 @@ impl Board {
         self
     }
 
-    fn with_levels(self, number: u8, level: u32) -> Board
+    fn with_levels(mut self, number: u8, level: u32) -> Board
         ensures { result ≡ with_levels self (number % 8) level }
     {
-        let n = (number % 8) as usize;
+        let n = usize::from(number % 8);
         let levels = Levels {
             a: bit(level, 0),
             b: bit(level, 1),
         };
-        let mut encoders = self.encoders;
-        let old = encoders[n];
-        encoders[n] = old.with_wires(levels);
-        Board { encoders, ..self }
+        self.encoders[n] = self.encoders[n].with_wires(levels);
+        self
     }
 
     // The board after a wire is set, if the level is not too wide for it.

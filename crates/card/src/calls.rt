@@ -94,8 +94,7 @@ impl Station for Card {
 
     fn volts(&self, _place: Place, channel: u8) -> Result<i32, Refusal> {
         if channel < 8 {
-            let outputs = self.board.outputs;
-            Ok(outputs.volts(channel))
+            Ok(self.board.outputs.volts(channel))
         } else {
             Err(Refusal::NoSuch)
         }

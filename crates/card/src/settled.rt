@@ -36,10 +36,9 @@ pub fn facts(board: &Board) -> Facts
     let held = board.held();
     let passes = board.sense.active & board.watchdog.selected;
     let off = !(board.watchdog.enabled & board.watchdog.active);
-    let outputs = board.outputs;
     Facts {
         held,
-        rest: outputs.at_rest() & (board.port.direction == 0),
+        rest: board.outputs.at_rest() & (board.port.direction == 0),
         passes,
         line: line(board),
         ready: passes & !held & board.sense.high & (off | board.watchdog.armed()),

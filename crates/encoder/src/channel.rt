@@ -1,8 +1,8 @@
 ghost use Rattle.std.specs.Prelude.{◌≡◌};
-ghost use Rattle.encoder.specs.Channels.{fresh, preset_to, wired, counted, moved, stepped, with_latch, with_load, with_clear, commanded};
+ghost use Rattle.encoder.specs.Channels.{fresh, preset_to, wired, counted, moved, stepped, commanded};
 
 use crate::turn::{Levels, Turn, turned};
-use bits::count::Count;
+use bits::number::Count;
 
 // One encoder.
 #[derive(Clone, Copy)]
@@ -63,7 +63,7 @@ impl Encoder {
     pub(crate) fn moved(self) -> bool
         ensures { result ≡ moved self }
     {
-        (self.wires.a != self.sample.a) | (self.wires.b != self.sample.b)
+        self.wires != self.sample
     }
 
     // One tick: the wires are sampled, and what changed since the sample before counts.
@@ -94,49 +94,19 @@ impl Encoder {
         Encoder { wires, ..self }
     }
 
-    fn with_latch(self, latch: bool) -> Encoder
-        ensures { result ≡ with_latch self latch }
-    {
-        if latch {
-            Encoder {
-                latch: self.count,
-                ..self
-            }
-        } else {
-            self
-        }
-    }
-
-    fn with_load(self, load: bool) -> Encoder
-        ensures { result ≡ with_load self load }
-    {
-        if load {
-            Encoder {
-                count: self.preset,
-                ..self
-            }
-        } else {
-            self
-        }
-    }
-
-    fn with_clear(self, clear: bool) -> Encoder
-        ensures { result ≡ with_clear self clear }
-    {
-        if clear {
-            Encoder {
-                count: Count::of(0),
-                ..self
-            }
-        } else {
-            self
-        }
-    }
-
     // Latches the count, loads the preset and clears the count, in this order, as far as asked.
-    pub fn commanded(self, latch: bool, load: bool, clear: bool) -> Encoder
+    pub fn commanded(mut self, latch: bool, load: bool, clear: bool) -> Encoder
         ensures { result ≡ commanded self latch load clear }
     {
-        self.with_latch(latch).with_load(load).with_clear(clear)
+        if latch {
+            self.latch = self.count;
+        }
+        if load {
+            self.count = self.preset;
+        }
+        if clear {
+            self.count = Count::of(0);
+        }
+        self
     }
 }

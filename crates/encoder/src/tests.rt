@@ -1,6 +1,6 @@
 use crate::channel::Encoder;
 use crate::turn::Levels;
-use bits::count::Count;
+use bits::number::Count;
 
 // An encoder that counts, at a count, with both wires low.
 fn counting(count: u32) -> Encoder {

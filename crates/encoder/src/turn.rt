@@ -2,7 +2,7 @@ ghost use Rattle.std.specs.Prelude.{◌≡◌, ◌<◌};
 ghost use Rattle.encoder.specs.Turns.{place, turn};
 
 // The levels of an encoder's two wires.
-#[derive(Clone, Copy)]
+#[derive(Clone, Copy, PartialEq, Eq)]
 pub struct Levels {
     pub a: bool,
     pub b: bool,
@@ -20,6 +20,7 @@ pub enum Turn {
 
 // Old and new levels to a turn. The old levels pick a row and the new ones a column; in each A
 // counts 1 and B counts 2. A and B at 00, 10, 11, 01 and again 00 count up.
+// A table: the rules of the project ask for a constant table of sixteen transitions.
 const TURNS: [Turn; 16] = [
     Turn::Still,
     Turn::Up,
@@ -44,9 +45,7 @@ fn place(levels: Levels) -> usize
     ensures value { result ≡ place levels }
     ensures bound { result < 4 }
 {
-    let a = if levels.a { 1 } else { 0 };
-    let b = if levels.b { 2 } else { 0 };
-    a + b
+    usize::from(levels.a) + 2 * usize::from(levels.b)
 }
 
 // The turn from old levels to new ones.

@@ -1,39 +1,25 @@
 -- Outputs that are hushed are at rest.
-use Rattle.std.proofs.Common.{◌≡◌, ℕ, zero as none, suc, true, eqb, List, [], ◌∷◌, get_or, sym, refl, ap, ◌∙◌}
-use Rattle.std.proofs.lemmas.Bool.{and_parts, and_from, eqb-true, true≢false}
-use Rattle.bits.specs.Codes.{code_of}
-use Rattle.bits.specs.declared.code.Code.{Code}
-use Rattle.outputs.specs.Channels.{volts, zero, at_rest, all_zero, unipolar, all_unipolar, hushed}
+use Rattle.std.proofs.Common.{◌≡◌, ℕ, true, eqb, List, [], ◌∷◌, sym, refl}
+use Rattle.std.specs.List.{list_all}
+use Rattle.std.proofs.lemmas.Bool.{and_parts, and_from, true≢false}
+use Rattle.outputs.specs.Channels.{is_idle, output, zero, at_rest, unipolar, hushed}
 use Rattle.outputs.specs.Modes.{steps}
+use Rattle.outputs.specs.declared.channels.Channel.{Channel}
 use Rattle.outputs.specs.declared.channels.Outputs.{Outputs}
 use Rattle.outputs.specs.declared.mode.Mode.{Mode}
 use Rattle.outputs.specs.declared.mode.Mode.TheVariants.{Unipolar, FiveVolts, TenVolts}
 
-code_zero : (cs : List Code) (n : ℕ) → all_zero cs ≡ true → (get_or cs n (code_of 0)).value ≡ 0
-unfolding code_of
-code_zero [] n e = refl
-code_zero (c ∷ cs) none e = eqb-true _ _ (and_parts (eqb c.value 0) _ e).0
-code_zero (c ∷ cs) (suc n) e = code_zero cs n (and_parts (eqb c.value 0) _ e).1
+no_volts : (m : Mode) (code : ℕ) → unipolar m ≡ true → eqb code 0 ≡ true → zero (steps m code) ≡ true
+no_volts Unipolar code u z = z
+no_volts FiveVolts code u z = absurd (true≢false (sym u))
+no_volts TenVolts code u z = absurd (true≢false (sym u))
 
-is_unipolar : (m : Mode) → unipolar m ≡ true → m ≡ Unipolar
-is_unipolar Unipolar e = refl
-is_unipolar FiveVolts e = absurd (true≢false (sym e))
-is_unipolar TenVolts e = absurd (true≢false (sym e))
+idle_rests : (cs : List Channel) → list_all is_idle cs ≡ true → list_all (λ c. zero (output c)) cs ≡ true
+idle_rests [] h = refl
+idle_rests (c ∷ cs) h =
+    let parts = and_parts (is_idle c) _ h in
+    let out = and_parts (eqb c.code.value 0) _ (and_parts (eqb c.latch.value 0) _ parts.0).1 in
+    and_from _ _ (no_volts c.mode c.code.value out.1 out.0) (idle_rests cs parts.1)
 
-mode_unipolar : (ms : List Mode) (n : ℕ) → all_unipolar ms ≡ true → get_or ms n Unipolar ≡ Unipolar
-mode_unipolar [] n e = refl
-mode_unipolar (m ∷ ms) none e = is_unipolar m (and_parts (unipolar m) _ e).0
-mode_unipolar (m ∷ ms) (suc n) e = mode_unipolar ms n (and_parts (unipolar m) _ e).1
-
-module _ (o : Outputs) (h : hushed o ≡ true) where
-  still : (n : ℕ) → zero (volts o n) ≡ true
-  still n =
-      let parts = and_parts (all_zero o.latches) _ h in
-      let out = and_parts (all_zero o.codes) _ parts.1 in
-      ap (λ m. zero (steps m (get_or o.codes n (code_of 0)).value)) (mode_unipolar o.modes n out.1)
-      ∙ ap (λ c. zero (steps Unipolar c)) (code_zero o.codes n out.0)
-
-  pub hushed_rests : at_rest o ≡ true
-  hushed_rests =
-      and_from _ _ (and_from _ _ (and_from _ _ (and_from _ _ (still 0) (still 1)) (still 2)) (still 3))
-      (and_from _ _ (and_from _ _ (and_from _ _ (still 4) (still 5)) (still 6)) (still 7))
+pub hushed_rests : (o : Outputs) → hushed o ≡ true → at_rest o ≡ true
+hushed_rests o h = idle_rests o.channels h

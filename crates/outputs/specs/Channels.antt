@@ -1,55 +1,70 @@
 -- All outputs of a card.
-use Rattle.std.specs.Prelude.{◌≡◌, ℕ, ◌+◌, ◌/◌, Bool, true, false, ◌&&◌, List, [], ◌∷◌, get_or, replicate, ℤ, pos, negsuc, ◌==◌, slice_index_or, slice_set, refl}
-use Rattle.bits.specs.Codes.{code_of}
-use Rattle.bits.specs.declared.code.Code.{Code}
+use Rattle.std.specs.Prelude.{◌≡◌, ℕ, ◌+◌, ◌/◌, Bool, true, false, ◌&&◌, List, map, replicate, ℤ, pos, negsuc, ◌==◌, slice_index_or, slice_set, refl}
+use Rattle.std.specs.List.{list_all, range_with_len}
+use Rattle.bits.specs.Numbers.{code_of, up_to}
+use Rattle.bits.specs.declared.number.UpTo.{UpTo}
+use Rattle.outputs.specs.declared.channels.Channel.{Channel}
 use Rattle.outputs.specs.declared.channels.Outputs.{Outputs}
 use Rattle.outputs.specs.declared.mode.Mode.{Mode}
 use Rattle.outputs.specs.declared.mode.Mode.TheVariants.{Unipolar, FiveVolts, TenVolts}
-use Rattle.outputs.specs.Modes.{steps}
+use Rattle.outputs.specs.Modes.{steps, modes_of}
 
--- a new card, and a held one: codes 0 in mode 0
+-- codes 0 in mode 0
+abbrev pub idle : Channel
+idle = record { latch = code_of 0; code = code_of 0; mode = Unipolar }
+
+-- a new card, and a held one
 abbrev pub silent : Outputs
-silent = record { latches = replicate 8 (code_of 0); codes = replicate 8 (code_of 0); modes = replicate 8 Unipolar }
+silent = record { channels = replicate 8 idle }
 
 -- the latched codes go out
 abbrev pub updated : Outputs → Outputs
-updated o = record { latches = o.latches; codes = o.latches; modes = o.modes }
+updated o = record { channels = map (λ (c : Channel). record c { code = c.latch }) o.channels }
+
+abbrev latch_at : List Channel → ℕ → UpTo 0xfff → List Channel
+latch_at cs n latch = let c = slice_index_or cs n idle in slice_set cs n (record c { latch = latch })
 
 -- the latches of channels n and 4 + n, from the low and the high half of a word
 abbrev pub latched : Outputs → ℕ → ℕ → Outputs
-latched o n value = record { latches = slice_set (slice_set o.latches n (code_of value)) (4 + n) (code_of (value / 0x10000)); codes = o.codes; modes = o.modes }
+latched o n value = record { channels = latch_at (latch_at o.channels n (code_of value)) (4 + n) (code_of (value / 0x10000)) }
+
+abbrev pub in_mode : Channel → Mode → Channel
+in_mode c m = record c { mode = m }
+
+-- each of eight channels in the mode that a word names
+abbrev pub moded : Outputs → ℕ → Outputs
+moded o value = record { channels = map (λ n. in_mode (slice_index_or o.channels n idle) (slice_index_or (modes_of value) n Unipolar)) (range_with_len 0 8) }
+
+abbrev pub modes : Outputs → List Mode
+modes o = map (λ c. c.mode) o.channels
+
+abbrev pub output : Channel → ℤ
+output c = steps c.mode c.code.value
 
 -- what channel n puts out
 abbrev pub volts : Outputs → ℕ → ℤ
-volts o n = steps (slice_index_or o.modes n Unipolar) (get_or o.codes n (code_of 0)).value
+volts o n = output (slice_index_or o.channels n idle)
 
 abbrev pub zero : ℤ → Bool
 zero (pos n) = n == 0
 zero (negsuc n) = false
 
--- zero volts on all eight channels
+-- zero volts on all channels
 abbrev pub at_rest : Outputs → Bool
-at_rest o =
-    (zero (volts o 0) && zero (volts o 1) && zero (volts o 2) && zero (volts o 3))
-    && (zero (volts o 4) && zero (volts o 5) && zero (volts o 6) && zero (volts o 7))
-
--- nothing is latched or out, in mode 0
-abbrev pub all_zero : List Code → Bool
-all_zero [] = true
-all_zero (c ∷ cs) = c.value == 0 && all_zero cs
+at_rest o = list_all (λ c. zero (output c)) o.channels
 
 abbrev pub unipolar : Mode → Bool
 unipolar Unipolar = true
 unipolar FiveVolts = false
 unipolar TenVolts = false
 
-abbrev pub all_unipolar : List Mode → Bool
-all_unipolar [] = true
-all_unipolar (m ∷ ms) = unipolar m && all_unipolar ms
+-- nothing is latched or out, in mode 0
+abbrev pub is_idle : Channel → Bool
+is_idle c = c.latch.value == 0 && (c.code.value == 0 && unipolar c.mode)
 
 abbrev pub hushed : Outputs → Bool
-hushed o = all_zero o.latches && (all_zero o.codes && all_unipolar o.modes)
+hushed o = list_all is_idle o.channels
 
 pub silent_hushed : hushed silent ≡ true
-unfolding code_of
+unfolding up_to
 silent_hushed = refl

@@ -1,27 +1,50 @@
 ghost use Rattle.std.specs.Prelude.{◌≡◌, ◌%◌};
-ghost use Rattle.outputs.specs.Channels.{silent, updated, latched, volts, zero, at_rest};
+ghost use Rattle.outputs.specs.Channels.{idle, output, silent, updated, latched, moded, modes, volts, at_rest};
 
-use crate::mode::Mode;
-use bits::code::Code;
+use crate::mode::{Mode, modes_of};
+use bits::number::Code;
 
-// The outputs: what is latched, what is out, and the mode of each.
+// An output: the code that is latched, the code that is out, and the mode.
+#[derive(Clone, Copy)]
+pub struct Channel {
+    pub latch: Code,
+    pub code: Code,
+    pub mode: Mode,
+}
+
+impl Channel {
+    // Codes 0 in mode 0.
+    fn idle() -> Channel
+        ensures { result ≡ idle }
+    {
+        Channel {
+            latch: Code::of(0),
+            code: Code::of(0),
+            mode: Mode::Unipolar,
+        }
+    }
+
+    // What it puts out, in steps of 10/4096 V.
+    fn steps(self) -> i32
+        ensures { result ≡ output self }
+    {
+        self.mode.steps(self.code)
+    }
+}
+
+// The outputs of a card.
 #[derive(Clone, Copy)]
 pub struct Outputs {
-    pub latches: [Code; 8],
-    pub codes: [Code; 8],
-    pub modes: [Mode; 8],
+    pub channels: [Channel; 8],
 }
 
 impl Outputs {
-    // Codes 0 in mode 0.
+    // All channels idle.
     pub fn silent() -> Outputs
         ensures { result ≡ silent }
     {
-        let zero = Code::of(0);
         Outputs {
-            latches: [zero; 8],
-            codes: [zero; 8],
-            modes: [Mode::Unipolar; 8],
+            channels: [Channel::idle(); 8],
         }
     }
 
@@ -29,12 +52,11 @@ impl Outputs {
     pub fn updated(self) -> Outputs
         ensures { result ≡ updated self }
     {
-        let latches = self.latches;
-        let modes = self.modes;
         Outputs {
-            latches,
-            codes: latches,
-            modes,
+            channels: self.channels.map(|channel| Channel {
+                code: channel.latch,
+                ..channel
+            }),
         }
     }
 
@@ -42,40 +64,44 @@ impl Outputs {
     pub fn latched(self, n: u8, value: u32) -> Outputs
         ensures { result ≡ latched self (n % 4) value }
     {
-        let low = (n % 4) as usize;
-        let mut latches = self.latches;
-        latches[low] = Code::of(value);
-        latches[4 + low] = Code::of(value / 0x1_0000);
-        let codes = self.codes;
-        let modes = self.modes;
-        Outputs {
-            latches,
-            codes,
-            modes,
+        let low = usize::from(n % 4);
+        let mut channels = self.channels;
+        channels[low].latch = Code::of(value);
+        channels[4 + low].latch = Code::of(value / 0x1_0000);
+        Outputs { channels }
+    }
+
+    // The modes of all channels, that of channel c from bits 2c and 2c + 1.
+    pub fn moded(self, value: u32) -> Outputs
+        ensures { result ≡ moded self value }
+    {
+        let modes = modes_of(value);
+        let mut channels = self.channels;
+        // By index: over a `zip` with the modes the proof did not close.
+        for (n, channel) in channels.iter_mut().enumerate() {
+            channel.mode = modes[n];
         }
+        Outputs { channels }
+    }
+
+    // The modes of all channels.
+    pub fn modes(self) -> [Mode; 8]
+        ensures { result ≡ modes self }
+    {
+        self.channels.map(|channel| channel.mode)
     }
 
     // What a channel, modulo 8, puts out in steps of 10/4096 V.
     pub fn volts(self, channel: u8) -> i32
         ensures { result ≡ volts self (channel % 8) }
     {
-        let n = (channel % 8) as usize;
-        self.modes[n].steps(self.codes[n])
-    }
-
-    // Whether a channel puts out nothing.
-    fn is_still(self, channel: u8) -> bool
-        ensures { result ≡ zero (volts self (channel % 8)) }
-    {
-        self.volts(channel) == 0
+        self.channels[usize::from(channel % 8)].steps()
     }
 
     // Whether all channels put out nothing.
     pub fn at_rest(self) -> bool
         ensures { result ≡ at_rest self }
     {
-        let low = self.is_still(0) & self.is_still(1) & self.is_still(2) & self.is_still(3);
-        let high = self.is_still(4) & self.is_still(5) & self.is_still(6) & self.is_still(7);
-        low & high
+        self.channels.iter().all(|channel| channel.steps() == 0)
     }
 }

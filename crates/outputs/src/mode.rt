@@ -1,7 +1,8 @@
-ghost use Rattle.std.specs.Prelude.{◌≡◌, ◌<◌};
-ghost use Rattle.outputs.specs.Modes.{mode, mode_bits, steps, modes_of, bits_of, known, modes_allowed};
+ghost use Rattle.std.specs.Prelude.{◌≡◌};
+ghost use Rattle.outputs.specs.Modes.{named, mode_bits, steps, pairs, modes_of, bits_of, modes_allowed};
 
-use bits::code::Code;
+use bits::number::Code;
+use std::array;
 
 // The range of an output.
 #[derive(Clone, Copy)]
@@ -14,35 +15,44 @@ pub enum Mode {
     TenVolts,
 }
 
-impl Mode {
-    // The mode that the lowest two bits of a number name. 3 names none, and is not let in.
-    fn of_bits(bits: u32) -> Mode
-        ensures { result ≡ mode bits }
-    {
-        match bits % 4 {
-            0 => Mode::Unipolar,
-            1 => Mode::FiveVolts,
-            _ => Mode::TenVolts,
+// A number that names no mode.
+#[derive(Clone, Copy, Debug, PartialEq, Eq)]
+pub struct UnknownMode(pub u32);
+
+impl TryFrom<u32> for Mode {
+    type Error = UnknownMode;
+
+    ghost try_from_gives = { λ bits result. result ≡ named bits };
+
+    fn try_from(bits: u32) -> Result<Mode, UnknownMode> {
+        match bits {
+            0 => Ok(Mode::Unipolar),
+            1 => Ok(Mode::FiveVolts),
+            2 => Ok(Mode::TenVolts),
+            _ => Err(UnknownMode(bits)),
         }
     }
+}
 
-    // The two bits that name the mode.
-    pub fn bits(self) -> u32
-        ensures value { result ≡ mode_bits self }
-        ensures bound { result < 3 }
-    {
-        match self {
+// The two bits that name a mode.
+impl From<Mode> for u32 {
+    ghost from_gives = { λ mode result. result ≡ mode_bits mode };
+
+    fn from(mode: Mode) -> u32 {
+        match mode {
             Mode::Unipolar => 0,
             Mode::FiveVolts => 1,
             Mode::TenVolts => 2,
         }
     }
+}
 
+impl Mode {
     // What a code puts out, in steps of 10/4096 V.
     pub fn steps(self, code: Code) -> i32
         ensures { result ≡ steps self code.value }
     {
-        let value = i32::from(code.value);
+        let value = code.value as i32;
         match self {
             Mode::Unipolar => value,
             Mode::FiveVolts => value - 2048,
@@ -51,51 +61,34 @@ impl Mode {
     }
 }
 
-// The modes of eight channels, that of channel c in bits 2c and 2c + 1.
+// Two bits of a word for each of eight channels, those of channel c in bits 2c and 2c + 1.
+fn pairs(value: u32) -> [u32; 8]
+    ensures { result ≡ pairs value }
+{
+    array::from_fn(|channel| (value >> 2 * channel) % 4)
+}
+
+// The modes of eight channels, that of channel c in bits 2c and 2c + 1. 3 names none, and is not let in.
 pub fn modes_of(value: u32) -> [Mode; 8]
     ensures { result ≡ modes_of value }
 {
-    [
-        Mode::of_bits(value),
-        Mode::of_bits(value / 4),
-        Mode::of_bits(value / 0x10),
-        Mode::of_bits(value / 0x40),
-        Mode::of_bits(value / 0x100),
-        Mode::of_bits(value / 0x400),
-        Mode::of_bits(value / 0x1000),
-        Mode::of_bits(value / 0x4000),
-    ]
+    pairs(value).map(|bits| Mode::try_from(bits).unwrap_or(Mode::TenVolts))
 }
 
 // The word that tells the modes of eight channels.
 pub fn bits_of(modes: [Mode; 8]) -> u32
     ensures { result ≡ bits_of modes }
 {
-    let low = modes[0].bits()
-        + 4 * modes[1].bits()
-        + 0x10 * modes[2].bits()
-        + 0x40 * modes[3].bits();
-    let high = modes[4].bits()
-        + 4 * modes[5].bits()
-        + 0x10 * modes[6].bits()
-        + 0x40 * modes[7].bits();
-    low + 0x100 * high
-}
-
-fn known(bits: u32) -> bool
-    ensures { result ≡ known bits }
-{
-    bits % 4 != 3
+    modes
+        .iter()
+        .rev()
+        .fold(0, |word, &mode| word << 2 | u32::from(mode))
 }
 
 // Whether a word names a mode for each of eight channels and has no other bit.
 pub fn modes_allowed(value: u32) -> bool
     ensures { result ≡ modes_allowed value }
 {
-    let low = known(value) & known(value / 4) & known(value / 0x10) & known(value / 0x40);
-    let high = known(value / 0x100)
-        & known(value / 0x400)
-        & known(value / 0x1000)
-        & known(value / 0x4000);
-    (value < 0x1_0000) & low & high
+    let pairs = pairs(value);
+    value < 0x1_0000 && pairs.iter().all(|&bits| Mode::try_from(bits).is_ok())
 }

@@ -1,6 +1,6 @@
 use crate::channels::Outputs;
 use crate::mode::{Mode, modes_allowed};
-use bits::code::Code;
+use bits::number::Code;
 
 #[test]
 fn a_mode_says_what_a_code_puts_out(rt: HostRuntime) {

@@ -1,20 +1,14 @@
-use Rattle.std.proofs.Common.{arith}
+use Rattle.std.proofs.Common.{ℕ, rules, tests, ◌∙◌, arith}
+use Rattle.std.proofs.lemmas.Iterator.Adapters.{YieldsList-from_rev_slice}
+use Rattle.std.proofs.lemmas.Iterator.Consumers.{fold_from_yields_List}
+use Rattle.bits.proofs.Digits.{shifted, digits_fold, flag_small}
+use Rattle.bits.specs.Words.{weight}
 use Rattle.encoder.specs.declared.channel.Encoder.{Encoder}
-use Rattle.encoder.proofs.Each.{gathered_sixteen}
 use Rattle.encoder.proofs.eight.enables.Goals as goal
 
 pub returns : goal.returns
 returns c =
-    omega (
-      arith,
-      gathered_sixteen (λ (e : Encoder). e.enabled) c.args.encoders.now c.index-encoders-0.result c.index-encoders-1.result c.index-encoders-2.result c.index-encoders-3.result
-          c.index-encoders-4.result c.index-encoders-5.result c.index-encoders-6.result c.index-encoders-7.result (omega (arith, c.told-encoders)),
-      c.weight.ensures.value,
-      c.weight-2.ensures.value,
-      c.weight-3.ensures.value,
-      c.weight-4.ensures.value,
-      c.weight-5.ensures.value,
-      c.weight-6.ensures.value,
-      c.weight-7.ensures.value,
-      c.weight-8.ensures.value,
-    )
+    let es = c.args.encoders.now in
+    let told : Encoder → ℕ = λ e. weight e.enabled in
+    fold_from_yields_List _ (shifted 4 32 told) 0 _ c.fold.ensures.ran (YieldsList-from_rev_slice es cc) (λ a x b q k. search (rules, tests))
+    ∙ digits_fold 4 32 told (λ e. flag_small 3 e.enabled) es (omega arith)

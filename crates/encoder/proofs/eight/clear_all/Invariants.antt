@@ -1,7 +1,0 @@
-use Rattle.std.proofs.Common.{◌≡◌, length}
-use Rattle.encoder.specs.Each.{each, with_cleared}
-use Rattle.encoder.proofs.Each.{Sofar}
-use Rattle.encoder.proofs.eight.clear_all.Given as goal
-
-abbrev pub invariant-loop-n : goal.invariant-loop-n
-invariant-loop-n l = (length l.encoders ≡ 8) × Sofar (with_cleared l.value) (each (with_cleared l.value) 0 l.initial.encoders) l.n l.encoders
