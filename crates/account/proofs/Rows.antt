@@ -1,6 +1,6 @@
 -- The rows noted one after another.
-use Rattle.std.proofs.Common.{◌≡◌, ℕ, ◌+◌, ◌<◌, ◌≤◌, List, [], ◌∷◌, ◌++◌, length, get_or, take, drop, set, Result, sym, ap, ◌∙◌, append_assoc, append-nil, arith}
-use Rattle.std.proofs.lemmas.List.{take_more_set, take_all, at_drop_more, at_drop_all, drop-set-lt}
+use Rattle.std.proofs.Common.{◌≡◌, ℕ, ◌+◌, ◌<◌, List, [], ◌∷◌, ◌++◌, length, get_or, take, drop, set, Result, sym, ap, ◌∙◌, append_assoc, arith}
+use Rattle.std.proofs.lemmas.List.{take_more_set, at_drop_more, drop-set-lt}
 use Rattle.station.specs.declared.facts.Facts.{Facts}
 use Rattle.bench.specs.declared.refusal.Refusal.{Refusal}
 use Rattle.station.specs.Meaning.{Meaning}
@@ -28,9 +28,3 @@ module _ {S : Type 0} (m : Meaning S) (b : Bench S) where
       ∙ ap (λ rs. rs ++ rest behind (drop (i + 1) rows)) (sym (take_more_set rows i row h))
       ∙ ap (λ t. take (i + 1) (set rows i row) ++ rest t (drop (i + 1) rows)) (sym next)
       ∙ ap (λ rs. take (i + 1) (set rows i row) ++ rest step' rs) (sym (drop-set-lt (i + 1) rows i row (omega arith)))
-
-  pub rows_all : (all rows : List Row) (i : ℕ) (step : Step) → length rows ≤ i →
-      all ≡ take i rows ++ rows_after m b step.tick step.hears i (drop i rows) → rows ≡ all
-  unfolding rows_after
-  rows_all all rows i step h sofar =
-      sym (sofar ∙ ap (λ rs. take i rows ++ rs) (at_drop_all (rows_after m b step.tick step.hears i) rows i h) ∙ append-nil _ ∙ take_all i rows h)

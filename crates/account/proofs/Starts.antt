@@ -1,5 +1,5 @@
 -- The first rows, one place after another.
-use Rattle.std.proofs.Common.{◌≡◌, ℕ, suc, ◌+◌, ◌-◌, ◌<◌, List, ◌++◌, Result, sym, ap, ◌∙◌, append_assoc, append-nil, arith}
+use Rattle.std.proofs.Common.{◌≡◌, ℕ, suc, ◌+◌, ◌-◌, ◌<◌, List, ◌++◌, Result, sym, ap, ◌∙◌, append_assoc, arith}
 use Rattle.station.specs.Meaning.{Meaning}
 use Rattle.station.specs.declared.facts.Facts.{Facts}
 use Rattle.bench.specs.Calls.{looked}
@@ -17,7 +17,3 @@ module _ {S : Type 0} (m : Meaning S) (b : Bench S) where
       sofar ∙ ap (λ i. rows ++ first_rows m b k i) left ∙ sym (append_assoc rows _ _)
       ∙ ap (λ r. (rows ++ first_row r) ++ first_rows m b (k + 1) (n - (k + 1))) (sym looks)
       ∙ ap (λ rs. rs ++ first_rows m b (k + 1) (n - (k + 1))) (sym pushed)
-
-  pub first_all : (all rows : List Row) (left k : ℕ) → left ≡ 0 → all ≡ rows ++ first_rows m b k left → rows ≡ all
-  unfolding first_rows
-  first_all all rows left k none sofar = sym (sofar ∙ ap (λ i. rows ++ first_rows m b k i) none ∙ append-nil rows)

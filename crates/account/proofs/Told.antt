@@ -9,6 +9,7 @@ use Rattle.bench.specs.declared.request.Request.TheVariants.{Read, Write, Wire, 
 use Rattle.lines.specs.Lines.{decoded}
 use Rattle.lines.specs.declared.command.Command.{Command}
 use Rattle.lines.specs.declared.malformed.Malformed.{Malformed}
+use Rattle.replay.proofs.Steps.{bench_more}
 use Rattle.replay.specs.Replays.{Outcome, request, line_told, after_line, left_by}
 use Rattle.account.specs.Watches.{View, call_view, tick_view, run_view, request_view, line_view}
 use Rattle.account.specs.Accounts.{told, lines_view}
@@ -51,14 +52,14 @@ module _ {S : Type 0} (m : Meaning S) where
   pub sofar_more : (b : Bench S) (all : List (List ℕ)) (start : View S) (out out' : List Outcome) (v v' : View S) (left : List (List ℕ)) (l : List ℕ) (rest : List (List ℕ)) →
       Sofar b all start out v left → left ≡ l ∷ rest → v' ≡ line_view m (decoded l) v →
       out' ≡ out ++ (line_told m v.bench (decoded l) ∷ []) → Sofar b all start out' v' rest
-  unfolding told lines_view left_by
+  unfolding told lines_view
   sofar_more b all start out out' v v' left l rest sofar next seen pushed =
       let carried : v'.bench ≡ after_line m v.bench (decoded l) = ap (λ (x : View S). x.bench) seen ∙ line_bench (decoded l) v in
       record {
         outcomes = sofar.outcomes ∙ ap (λ ls. out ++ told m v.bench ls) next ∙ sym (append_assoc out (line_told m v.bench (decoded l) ∷ []) _)
             ∙ ap (λ o. o ++ told m (after_line m v.bench (decoded l)) rest) (sym pushed) ∙ ap (λ x. out' ++ told m x rest) (sym carried);
         seen = sofar.seen ∙ ap (λ ls. lines_view m ls v) next ∙ ap (lines_view m rest) (sym seen);
-        bench = sofar.bench ∙ ap (left_by m v.bench) next ∙ ap (λ x. left_by m x rest) (sym carried);
+        bench = bench_more m _ _ _ _ _ _ sofar.bench next carried;
       }
 
   pub sofar_begun : (v : View S) (all : List (List ℕ)) (out : List Outcome) → out ≡ [] → Sofar v.bench all v out v all

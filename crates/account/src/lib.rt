@@ -24,6 +24,7 @@ pub struct Account<S> {
 }
 
 // Replays a whole trace, and keeps the account of it.
+#[tactic(auto, using(crate::proofs::Told::sofar_begun))]
 pub fn account_of<S: Station + Drop>(
     heap: Global,
     bench: Bench<S>,

@@ -36,18 +36,6 @@ pub struct Step {
     pub hears: Option<bool>,
 }
 
-impl Step {
-    // The same step, as the place behind that of a row hears it.
-    pub fn behind(self, row: Row) -> Step
-        ensures { result ≡ record { tick = self.tick; hears = passed_on row self.hears } }
-    {
-        Step {
-            hears: self.hears.map(|_| row.facts.line),
-            ..self
-        }
-    }
-}
-
 impl Rest {
     // The place came to rest at a tick, and saw no cause.
     fn uncaused(tick: u64) -> Rest
@@ -58,6 +46,18 @@ impl Rest {
             due: false,
             stop: false,
             line: false,
+        }
+    }
+}
+
+impl Step {
+    // The same step, as the place behind that of a row hears it.
+    pub fn behind(self, row: Row) -> Step
+        ensures { result ≡ record { tick = self.tick; hears = passed_on row self.hears } }
+    {
+        Step {
+            hears: self.hears.map(|_| row.facts.line),
+            ..self
         }
     }
 }

@@ -27,6 +27,7 @@ fn begin(rows: &mut Vec<Row>, looked: Result<Facts, Turned>) -> Result<(), Alloc
 }
 
 // Notes what is to be seen of each place after a step, which the first place hears so.
+#[tactic(auto, using(crate::proofs::Rows::rows_more), unfolding(crate::specs::Watches::rows_after))]
 fn note_rows<S: Station>(bench: &Bench<S>, rows: &mut [Row], mut step: Step)
     requires { length rows.old ≤ 16 }
     ensures { rows.new ≡ rows_after S.Station.meaning bench.now step.tick step.hears 0 rows.old }
@@ -40,6 +41,7 @@ fn note_rows<S: Station>(bench: &Bench<S>, rows: &mut [Row], mut step: Step)
 
 impl<S: Station> Watch<S> {
     // Watches a bench from now on.
+    #[tactic(auto, unfolding(crate::specs::Watches::first_rows))]
     pub fn new(heap: Global, bench: Bench<S>) -> Result<Watch<S>, AllocError>
     where
         S: Drop,
@@ -66,6 +68,7 @@ impl<S: Station> Watch<S> {
     }
 
     // So many ticks.
+    #[tactic(auto, using(crate::proofs::Runs::run_more), unfolding(crate::specs::Watches::run_view))]
     fn run(&mut self, level: bool, count: u32)
         ensures { view self.new ≡ run_view S.Station.meaning level count (view self.old) }
     {

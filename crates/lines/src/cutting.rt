@@ -23,7 +23,7 @@ fn line_end(trace: &[u8]) -> Option<usize>
 }
 
 // The lines of a trace, one after another.
-#[derive(Clone, Copy)]
+#[derive(Drop)]
 pub struct Lines<'a> {
     rest: &'a [u8],
 }

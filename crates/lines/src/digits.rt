@@ -5,9 +5,9 @@ ghost use Rattle.lines.specs.Digits.{digit, nibble, byte_at, word_at, letter};
 pub fn digit(character: u8) -> Option<u8>
     ensures { result ≡ digit character }
 {
-    match char::from(character) {
-        '0'..='9' => Some(character - b'0'),
-        'A'..='F' => Some(character - b'A' + 10),
+    match character {
+        b'0'..=b'9' => Some(character - b'0'),
+        b'A'..=b'F' => Some(character - b'A' + 10),
         _ => None,
     }
 }

@@ -1,5 +1,5 @@
 -- A trace replayed line by line.
-use Rattle.std.proofs.Common.{◌≡◌, ℕ, List, [], ◌∷◌, ◌++◌, sym, ap, ◌∙◌, append_assoc}
+use Rattle.std.proofs.Common.{◌≡◌, ℕ, List, ◌∷◌, ◌++◌, sym, ap, ◌∙◌, append_assoc}
 use Rattle.station.specs.Meaning.{Meaning}
 use Rattle.bench.specs.declared.Bench.{Bench}
 use Rattle.lines.specs.Lines.{decoded}

@@ -27,7 +27,8 @@ impl fmt::Display for Microseconds {
     fn fmt<W: fmt::Write>(&self, f: &mut fmt::Formatter<W>) -> fmt::Result {
         let whole = self.whole;
         let hundredths = self.hundredths;
-        let text = fmt::InlineText::<48>::of(format_args!("{whole}.{hundredths:02}"));
+        // At most 39 digits, the point, and two digits.
+        let text = fmt::InlineText::<42>::of(format_args!("{whole}.{hundredths:02}"));
         f.pad(text.as_str())
     }
 }
