@@ -21,68 +21,23 @@ fresh = record {
 }
 
 abbrev pub preset_to : Encoder → UpTo 0xffffff → Encoder
-preset_to e n = record {
-  wires = e.wires;
-  sample = e.sample;
-  enabled = e.enabled;
-  count = e.count;
-  preset = n;
-  latch = e.latch;
-  wrapped = e.wrapped;
-  lost = e.lost;
-}
+preset_to e n = record e { preset = n }
 
 abbrev pub wired : Encoder → Levels → Encoder
-wired e levels = record {
-  wires = levels;
-  sample = e.sample;
-  enabled = e.enabled;
-  count = e.count;
-  preset = e.preset;
-  latch = e.latch;
-  wrapped = e.wrapped;
-  lost = e.lost;
-}
+wired e levels = record e { wires = levels }
 
 abbrev with_count : Encoder → UpTo 0xffffff → Bool → Encoder
-with_count e n wraps = record {
-  wires = e.wires;
-  sample = e.sample;
-  enabled = e.enabled;
-  count = n;
-  preset = e.preset;
-  latch = e.latch;
-  wrapped = e.wrapped || wraps;
-  lost = e.lost;
-}
+with_count e n wraps = record e { count = n; wrapped = e.wrapped || wraps }
 
 -- up from FFFFFF gives 0 and a carry, down from 0 gives FFFFFF and a borrow; a lost turn counts nothing
 abbrev pub counted : Encoder → Turn → Encoder
 counted e Still = e
 counted e Up = with_count e (count_of (e.count.value + 1)) (e.count.value == 0xffffff)
 counted e Down = with_count e (count_of (e.count.value + 0xffffff)) (e.count.value == 0)
-counted e Lost = record {
-  wires = e.wires;
-  sample = e.sample;
-  enabled = e.enabled;
-  count = e.count;
-  preset = e.preset;
-  latch = e.latch;
-  wrapped = e.wrapped;
-  lost = true;
-}
+counted e Lost = record e { lost = true }
 
 abbrev sampled : Encoder → Encoder
-sampled e = record {
-  wires = e.wires;
-  sample = e.wires;
-  enabled = e.enabled;
-  count = e.count;
-  preset = e.preset;
-  latch = e.latch;
-  wrapped = e.wrapped;
-  lost = e.lost;
-}
+sampled e = record e { sample = e.wires }
 
 -- the wires have changed since the last sample
 abbrev pub moved : Encoder → Bool
@@ -93,16 +48,7 @@ abbrev pub stepped : Encoder → Encoder
 stepped e = counted (sampled e) (cond e.enabled (turn e.sample e.wires) Still)
 
 abbrev pub with_latch : Encoder → Bool → Encoder
-with_latch e latch = cond latch (record {
-  wires = e.wires;
-  sample = e.sample;
-  enabled = e.enabled;
-  count = e.count;
-  preset = e.preset;
-  latch = e.count;
-  wrapped = e.wrapped;
-  lost = e.lost;
-}) e
+with_latch e latch = cond latch (record e { latch = e.count }) e
 
 abbrev pub with_load : Encoder → Bool → Encoder
 with_load e load = cond load (with_count e e.preset false) e

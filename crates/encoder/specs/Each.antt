@@ -25,29 +25,11 @@ with_command value n e = commanded e (bit value n) (bit value (8 + n)) (bit valu
 
 -- bit 4n: encoder n counts
 abbrev pub with_enable : ℕ → ℕ → Encoder → Encoder
-with_enable value n e = record {
-  wires = e.wires;
-  sample = e.sample;
-  enabled = bit value (4 * n);
-  count = e.count;
-  preset = e.preset;
-  latch = e.latch;
-  wrapped = e.wrapped;
-  lost = e.lost;
-}
+with_enable value n e = record e { enabled = bit value (4 * n) }
 
 -- bit n clears the carry or borrow of encoder n, 8 + n its error
 abbrev pub with_cleared : ℕ → ℕ → Encoder → Encoder
-with_cleared value n e = record {
-  wires = e.wires;
-  sample = e.sample;
-  enabled = e.enabled;
-  count = e.count;
-  preset = e.preset;
-  latch = e.latch;
-  wrapped = e.wrapped && not (bit value n);
-  lost = e.lost && not (bit value (8 + n));
-}
+with_cleared value n e = record e { wrapped = e.wrapped && not (bit value n); lost = e.lost && not (bit value (8 + n)) }
 
 -- the flag of encoder n in bit n
 abbrev pub gathered : (Encoder → Bool) → List Encoder → ℕ
