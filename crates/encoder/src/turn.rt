@@ -1,4 +1,4 @@
-ghost use Rattle.std.specs.Prelude.{◌≡◌, ◌<◌};
+ghost use Rattle.std.specs.Prelude.{◌≡◌};
 ghost use Rattle.encoder.specs.Turns.{place, turn};
 
 // The levels of an encoder's two wires.
@@ -42,8 +42,7 @@ const TURNS: [Turn; 16] = [
 
 // The levels as a number below 4.
 fn place(levels: Levels) -> usize
-    ensures value { result ≡ place levels }
-    ensures bound { result < 4 }
+    ensures { result ≡ place levels }
 {
     usize::from(levels.a) + 2 * usize::from(levels.b)
 }

@@ -17,12 +17,16 @@ idle = record { latch = code_of 0; code = code_of 0; mode = Unipolar }
 abbrev pub silent : Outputs
 silent = record { channels = replicate 8 idle }
 
--- the latched codes go out
+-- the latched code goes out
+abbrev pub put_out : Channel → Channel
+put_out c = record c { code = c.latch }
+
+-- all latched codes go out
 abbrev pub updated : Outputs → Outputs
-updated o = record { channels = map (λ (c : Channel). record c { code = c.latch }) o.channels }
+updated o = record { channels = map put_out o.channels }
 
 abbrev latch_at : List Channel → ℕ → UpTo 0xfff → List Channel
-latch_at cs n latch = let c = slice_index_or cs n idle in slice_set cs n (record c { latch = latch })
+latch_at cs n latch = slice_set cs n (record (slice_index_or cs n idle) { latch = latch })
 
 -- the latches of channels n and 4 + n, from the low and the high half of a word
 abbrev pub latched : Outputs → ℕ → ℕ → Outputs

@@ -8,6 +8,6 @@ pub returns : goal.returns
 returns c =
     let old = c.args.old in
     let new = c.args.new in
-    ap (λ n. get_or table (4 * n + c.place-2.result) Still) c.place.ensures.value
-    ∙ ap (λ n. get_or table (4 * place old + n) Still) c.place-2.ensures.value
+    ap (λ n. get_or table (4 * n + c.place-2.result) Still) c.place.ensures
+    ∙ ap (λ n. get_or table (4 * place old + n) Still) c.place-2.ensures
     ∙ rows old.a old.b new.a new.b Still
