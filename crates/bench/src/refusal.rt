@@ -68,6 +68,7 @@ impl fmt::Display for Refusal {
         match self {
             Refusal::NoPlace { .. } => write!(f, "that place is not in the chain"),
             Refusal::Station { why, .. } => write!(f, "{why}"),
+            // The number is written out: through `MOST` the words need a proof by hand, which is no plainer.
             Refusal::TooMany => write!(f, "one run makes at most 1000000 ticks (000F4240)"),
             Refusal::NothingPending { .. } => write!(f, "no interrupt is pending at that place"),
             Refusal::ServiceOpen { .. } => write!(f, "a service is open at that place already"),

@@ -1,7 +1,7 @@
 ghost use Rattle.std.specs.Prelude.{◌≡◌, ◌+◌, ◌<◌, length};
 ghost use Rattle.lines.specs.Digits.{digit, nibble, byte_at, word_at, letter};
 
-// The value of a digit, 0 to 9 or A to F.
+// The value of a digit, 0 to 9 or A to F. Not by `to_digit`, which takes a to f too.
 pub fn digit(character: u8) -> Option<u8>
     ensures { result ≡ digit character }
 {
