@@ -14,6 +14,8 @@ pub(crate) fn told<T>(place: u8, answer: Result<T, Turned>) -> Result<T, Refusal
     answer.map_err(|why| Refusal::Station { place, why })
 }
 
+// A call asks for its place and hands the answer on. These two lines stand in each: a function that took the station's
+// call as a closure would be as long where it is used, and its contract longer.
 impl<S: Station> Bench<S> {
     // Reads a register.
     pub fn read(&mut self, place: u8, register: u8) -> Result<u32, Refusal>

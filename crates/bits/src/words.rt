@@ -8,7 +8,8 @@ pub fn bit(word: u32, number: u32) -> bool
     number < 32 && word >> number & 1 == 1
 }
 
-// Eight bits gathered into a byte, the first into bit 0.
+// Eight bits gathered into a byte, the first into bit 0. The modes of the outputs and the encoders' enables are gathered
+// by chains of this form too: one function for the three would have to require that the digits fit, as here the types say.
 pub fn byte_of(bits: [bool; 8]) -> u8
     ensures { result ≡ byte_of bits }
 {

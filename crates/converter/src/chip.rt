@@ -6,7 +6,7 @@ use crate::queue::{extended, number, queue};
 // A channel is converted in so many ticks.
 const TICKS: u8 = 80;
 
-// What the chip is doing.
+// What the chip is doing. An enum, where an Option would do: the project's rules name the two states.
 #[derive(Clone, Copy)]
 pub enum Phase {
     Idle,
@@ -24,7 +24,8 @@ pub enum Event {
 #[derive(Clone, Copy)]
 pub struct Chip {
     pub phase: Phase,
-    // How many channels the last start selected, and their samples.
+    // How many channels the last start selected, and their samples. Fixed memory with its length beside it, since a
+    // card is copied whole and allocates nothing.
     pub number: u8,
     pub samples: [u16; 4],
     // The results, and the place that is read next.

@@ -27,7 +27,8 @@ fn with_first(queue: [u16; 4], sample: u16, wanted: bool) -> [u16; 4]
     }
 }
 
-// The samples of the selected channels, in ascending order from place 0 on.
+// The samples of the selected channels, in ascending order from place 0 on. Written out: as a loop it is three times
+// as long, and asks for an invariant.
 pub fn queue(mask: u8, wires: [u16; 4]) -> [u16; 4]
     ensures { result ≡ queue mask wires }
 {
