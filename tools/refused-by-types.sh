@@ -17,6 +17,7 @@ program() {
 
 use bench::Bench;
 use bench::arming::Arming;
+use std::marker::PhantomData;
 use bench::ticket::Ticket;
 use station::Station;
 
@@ -56,7 +57,7 @@ expect 'mismatched-types' 'one that is only begun cannot be kicked' \
 expect 'mismatched-types' 'one that is only preloaded cannot be kicked' \
     'if let Ok(preloaded) = bench.preload(begun, 100) { let _ = bench.kick(preloaded).is_ok(); }'
 expect 'private' 'an armed one cannot be made up' \
-    'let _ = bench.kick(Arming { place: begun.place() }).is_ok();'
+    'let _ = bench.kick(Arming { place: begun.place(), stage: PhantomData }).is_ok();'
 
 expect accepted 'a ticket is taken and acknowledged' \
     'if let Ok(ticket) = bench.take(0) { if let Err(back) = bench.acknowledge(ticket) { return Some(back.given); } }'

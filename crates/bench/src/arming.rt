@@ -58,6 +58,7 @@ impl<Stage> Arming<Stage> {
     }
 }
 
+// As in `access`, each call that reaches a station asks for its place and hands the answer on.
 impl<S: Station> Bench<S> {
     // Puts a number of ticks into the preload.
     pub fn preload(

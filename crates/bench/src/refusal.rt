@@ -24,7 +24,7 @@ pub enum Refusal {
 }
 
 impl Refusal {
-    // The number by which the refusal is known.
+    // The number by which the refusal is known: a method, whose name says what `u8::from` would not.
     pub fn number(self) -> u8
         ensures { result ≡ number self }
     {

@@ -18,7 +18,7 @@ impl Services {
     pub(crate) fn at(&self, place: Place) -> Option<u32>
         ensures { result ≡ service self.now place.number }
     {
-        self.each[place.number as usize]
+        self.each[usize::from(place.number)]
     }
 
     // Whether a service is open at a place with just these bits.
@@ -33,6 +33,6 @@ impl Services {
     pub(crate) fn put(&mut self, place: Place, service: Option<u32>)
         ensures { self.new ≡ with_service self.old place.number service }
     {
-        self.each[place.number as usize] = service;
+        self.each[usize::from(place.number)] = service;
     }
 }

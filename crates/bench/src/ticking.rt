@@ -1,4 +1,5 @@
-ghost use Rattle.std.specs.Prelude.{◌≡◌, IfOk};
+ghost use Rattle.std.specs.Prelude.{◌≡◌, cond, nat_lt, IfOk};
+ghost use Rattle.bench.specs.declared.refusal.Refusal.TheVariants.{TooMany};
 ghost use Rattle.bench.specs.declared.request.Request.TheVariants.{Run, Until};
 ghost use Rattle.bench.specs.Calls.{reply, performed};
 ghost use Rattle.bench.specs.Ticks.{ticks, any_pending, ticks_until, Stops};
@@ -44,15 +45,25 @@ fn tick_until<S: Station>(chain: &mut S, level: bool, most: u32) -> u32
     most
 }
 
+// Whether one call makes so many ticks.
+fn within(count: u32) -> Result<(), Refusal>
+    ensures { result ≡ cond (nat_lt 1000000 count) (Err TooMany) (Ok tt) }
+{
+    if count > MOST {
+        Err(Refusal::TooMany)
+    } else {
+        Ok(())
+    }
+}
+
+// Level and count stand as two parameters: a struct for them would say no more at a call.
 impl<S: Station> Bench<S> {
     // Makes n ticks, in all of which the outside line is at a level, and answers n.
     pub fn run(&mut self, level: bool, count: u32) -> Result<u32, Refusal>
         ensures value { result ≡ reply S.Station.meaning self.old (Run level count) }
         ensures after { self.new ≡ performed S.Station.meaning self.old (Run level count) }
     {
-        if count > MOST {
-            return Err(Refusal::TooMany);
-        }
+        within(count)?;
         tick_all(&mut self.chain, level, count);
         Ok(count)
     }
@@ -63,9 +74,7 @@ impl<S: Station> Bench<S> {
         ensures after { self.new ≡ performed S.Station.meaning self.old (Until level count) }
         ensures stops { IfOk result (λ t. Stops S.Station.meaning self.old.chain level count t) }
     {
-        if MOST < count {
-            return Err(Refusal::TooMany);
-        }
+        within(count)?;
         Ok(tick_until(&mut self.chain, level, count))
     }
 

@@ -21,7 +21,7 @@ pub struct Board {
     pub fuse: Fuse,
     pub port: Port,
     pub outputs: Outputs,
-    // The analog inputs 0 to 3 and 4 to 7, with a chip each.
+    // The analog inputs 0 to 3 with chip 0, and 4 to 7 with chip 1.
     pub low: Inputs,
     pub high: Inputs,
     pub encoders: [Encoder; 8],

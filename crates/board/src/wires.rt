@@ -1,4 +1,5 @@
-ghost use Rattle.std.specs.Prelude.{◌≡◌, ◌%◌};
+ghost use Rattle.std.specs.Prelude.{◌≡◌, ◌%◌, cond, nat_lt};
+ghost use Rattle.station.specs.declared.refusal.Refusal.TheVariants.{NotAllowed};
 ghost use Rattle.board.specs.Registers.{named};
 ghost use Rattle.board.specs.Wires.{wire_numbered, with_analog, with_levels, wired};
 
@@ -36,6 +37,17 @@ impl TryFrom<u8> for Wire {
     }
 }
 
+// Refuses a level that is too wide.
+fn below(level: u32, size: u32) -> Result<(), Refusal>
+    ensures { result ≡ cond (nat_lt level size) (Ok tt) (Err NotAllowed) }
+{
+    if level < size {
+        Ok(())
+    } else {
+        Err(Refusal::NotAllowed)
+    }
+}
+
 impl Board {
     fn with_analog(mut self, channel: u8, code: u16) -> Board
         ensures { result ≡ with_analog self (channel % 8) code }
@@ -67,32 +79,23 @@ impl Board {
     {
         match wire {
             Wire::Analog { channel } => {
-                if level < 0x4000 {
-                    Ok(self.with_analog(channel, level as u16))
-                } else {
-                    Err(Refusal::NotAllowed)
-                }
+                below(level, 0x4000)?;
+                Ok(self.with_analog(channel, level as u16))
             }
             Wire::Digital => Ok(Board {
                 port: self.port.with_wires(level),
                 ..self
             }),
             Wire::Encoder { number } => {
-                if level < 4 {
-                    Ok(self.with_levels(number, level))
-                } else {
-                    Err(Refusal::NotAllowed)
-                }
+                below(level, 4)?;
+                Ok(self.with_levels(number, level))
             }
             Wire::Fuse => {
-                if level < 2 {
-                    Ok(Board {
-                        fuse: self.fuse.with_wire(level == 1),
-                        ..self
-                    })
-                } else {
-                    Err(Refusal::NotAllowed)
-                }
+                below(level, 2)?;
+                Ok(Board {
+                    fuse: self.fuse.with_wire(level == 1),
+                    ..self
+                })
             }
         }
     }

@@ -118,8 +118,7 @@ impl Station for Card {
         Ok(())
     }
 
-    fn kick(&mut self, _place: Place) -> Result<(), Refusal> {
-        *self = Card::settled(armed_board(self.board));
-        Ok(())
+    fn kick(&mut self, place: Place) -> Result<(), Refusal> {
+        self.arm(place)
     }
 }

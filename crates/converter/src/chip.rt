@@ -119,7 +119,7 @@ impl Chip {
         }
     }
 
-    // What a read gives, and the chip after it.
+    // What a read gives.
     pub fn read(self) -> u16
         ensures { result ≡ read_of self }
     {

@@ -5,7 +5,7 @@ ghost use Rattle.converter.specs.Queues.{selected, number, with_first, queue, ex
 fn selected(mask: u8, channel: u8) -> bool
     ensures { result ≡ selected mask (channel % 4) }
 {
-    mask / (1 << (channel % 4)) % 2 == 1
+    mask >> (channel % 4) & 1 == 1
 }
 
 // How many channels a mask of four bits selects.

@@ -94,7 +94,8 @@ impl Encoder {
         Encoder { wires, ..self }
     }
 
-    // Latches the count, loads the preset and clears the count, in this order, as far as asked.
+    // Latches the count, loads the preset and clears the count, in this order, as far as asked. Three flags and no struct:
+    // one function takes them, and one calls it.
     pub fn commanded(mut self, latch: bool, load: bool, clear: bool) -> Encoder
         ensures { result ≡ commanded self latch load clear }
     {

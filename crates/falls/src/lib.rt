@@ -52,7 +52,8 @@ fn one_later(tick: Option<u128>) -> Option<u128>
     tick.map(|n| n + 1)
 }
 
-// The first addressed place of which nothing can be told.
+// The first addressed place of which nothing can be told. No `find`: its closure would have to require again that a place
+// has an address.
 fn first_unsettled<S: Station>(chain: &S) -> Option<u8>
     ensures { result ≡ unsettled S.Station.meaning chain.now }
 {
@@ -69,6 +70,7 @@ fn expect<S: Station>(chain: &S, level: bool, place: Place) -> Option<u128>
     ensures { result ≡ foretold S.Station.meaning chain.now level place.number }
 {
     let mut falls = waiting(chain.facts(Place { number: 0 }), !level);
+    // Over the place before each: a loop over `1..=n` has two ends, and the proof stands twice.
     for before in 0..place.number {
         let number = before + 1;
         let own = waiting(chain.facts(Place { number }), false);

@@ -26,7 +26,7 @@ impl Port {
     pub fn read(self) -> u32
         ensures { result ≡ seen self }
     {
-        (self.wires & (0xffff_ffff - self.direction)) | (self.latch & self.direction)
+        (self.wires & !self.direction) | (self.latch & self.direction)
     }
 
     pub fn with_latch(self, latch: u32) -> Port

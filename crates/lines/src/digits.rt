@@ -28,7 +28,8 @@ pub(crate) fn byte_at(line: &[u8], at: usize) -> u8
     16 * nibble(line[at]) + nibble(line[at + 1])
 }
 
-// The number that the eight digits at a place of the line write.
+// The number that the eight digits at a place of the line write. The four bytes are written out: a closure that takes the
+// place of each would have to require again that it is within the line.
 pub(crate) fn word_at(line: &[u8], at: usize) -> u32
     requires { at + 7 < length line.now }
     ensures { result ≡ word_at line.now at }
@@ -41,7 +42,7 @@ pub(crate) fn word_at(line: &[u8], at: usize) -> u32
     ])
 }
 
-// The digit that writes a value below 16.
+// The digit that writes a value below 16. By hand, since `char::from_digit` writes a to f in small letters.
 pub(crate) fn letter(value: u8) -> u8
     requires { value < 16 }
     ensures { result ≡ letter value }

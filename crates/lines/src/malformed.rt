@@ -19,7 +19,7 @@ pub enum Malformed {
 }
 
 impl Malformed {
-    // The number by which the refusal is known.
+    // The number by which the refusal is known: a method, whose name says what `u8::from` would not.
     pub fn number(self) -> u8
         ensures { result ≡ number self }
     {

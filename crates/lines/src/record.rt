@@ -31,7 +31,7 @@ pub struct Coded {
     pub at: u16,
 }
 
-// The eleven bytes of the record of a line. A line that was carried out answers a word: 0 where there is none.
+// The eleven bytes of the record of a line, written out: five pairs in an array would have to be flattened. A line that was carried out answers a word: 0 where there is none.
 pub fn record(answer: Result<u32, Coded>) -> [u8; 11]
     ensures { result ≡ record_of answer }
 {
@@ -50,6 +50,7 @@ fn number(answer: Result<u32, Coded>) -> u8
     answer.map_or_else(|refusal| refusal.number, |_| 0)
 }
 
+// Layer and place by arithmetic: as four bytes put together it is no shorter.
 fn word(answer: Result<u32, Coded>) -> u32
     ensures { result ≡ word_of answer }
 {

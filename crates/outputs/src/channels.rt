@@ -77,7 +77,7 @@ impl Outputs {
     {
         let modes = modes_of(value);
         let mut channels = self.channels;
-        // By index: over a `zip` with the modes the proof did not close.
+        // By index: over a `zip` with the modes, and by `array::from_fn`, the proof did not close.
         for (n, channel) in channels.iter_mut().enumerate() {
             channel.mode = modes[n];
         }

@@ -68,7 +68,8 @@ fn pairs(value: u32) -> [u32; 8]
     array::from_fn(|channel| (value >> 2 * channel) % 4)
 }
 
-// The modes of eight channels, that of channel c in bits 2c and 2c + 1. 3 names none, and is not let in.
+// The modes of eight channels, that of channel c in bits 2c and 2c + 1. 3 names none: a write is tested by `modes_allowed`
+// before it is made, since a board after a write has to be there for every word.
 pub fn modes_of(value: u32) -> [Mode; 8]
     ensures { result ≡ modes_of value }
 {

@@ -8,7 +8,8 @@ use std::alloc::AllocError;
 use std::fmt;
 use std::fmt::Write;
 
-// Why a place came to rest, as far as it can see. The stop wire of a card is its fuse.
+// Why a place came to rest, as far as it can see. The stop wire of a card is its fuse. A table: joined parts would have to be
+// gathered before they can be padded to the width of the column.
 fn why(kind: Kind, rest: Rest) -> &'static str {
     match (rest.due, rest.stop, rest.line, kind) {
         (false, false, false, _) => "a call",
