@@ -27,8 +27,8 @@ fn with_first(queue: [u16; 4], sample: u16, wanted: bool) -> [u16; 4]
     }
 }
 
-// The samples of the selected channels, in ascending order from place 0 on. Written out: as a loop it is three times
-// as long, and asks for an invariant.
+// The samples of the selected channels, in ascending order from place 0 on. Written out: as a fold over
+// `enumerate().rev()` the proof did not close, and a loop is three times as long and asks for an invariant.
 pub fn queue(mask: u8, wires: [u16; 4]) -> [u16; 4]
     ensures { result ≡ queue mask wires }
 {
@@ -38,7 +38,7 @@ pub fn queue(mask: u8, wires: [u16; 4]) -> [u16; 4]
     with_first(three, wires[0], selected(mask, 0))
 }
 
-// The lowest 14 bits as a signed number of 16.
+// The lowest 14 bits as a signed number of 16. By a test: two shifts of a signed number are shorter and less plain.
 pub fn extended(code: u16) -> u16
     ensures { result ≡ extended code }
 {
