@@ -1,25 +1,10 @@
--- What the calls of a closure that changes nothing make of an array.
-use Rattle.std.proofs.Common.{◌≡◌, ℕ, zero as none, suc, ◌+◌, ◌<◌, ◌≤◌, List, length, map, get_or, sym, ap, ◌∙◌, subst, arith}
-use Rattle.std.specs.Array.{IsFromFnResult, IsFromFnResultFrom, IsMapOf, MapsFrom}
+-- What `map` by a closure that changes nothing makes of an array.
+use Rattle.std.proofs.Common.{◌≡◌, ℕ, zero as none, suc, ◌+◌, ◌<◌, List, length, map, get_or, sym, ap, ◌∙◌, subst, arith}
+use Rattle.std.specs.Array.{IsMapOf, MapsFrom}
 use Rattle.std.specs.Fn.{Called, Mut}
-use Rattle.std.specs.List.{range_with_len}
 use Rattle.std.proofs.Math.Nat.{add-zero}
 use Rattle.std.proofs.lemmas.List.{same_lists, length-map, get_or-map}
-use Rattle.std.proofs.lemmas.List.FromFn.{fill_by_all}
 
--- `from_fn`
-module _ {F B : Type 0} (g : Mut F (ℕ × Unit {0}) B) (h : ℕ → B) (f : F) (all : ℕ) (same : (i : ℕ) (y : B) (q : F) → i < all → Called g f (i, tt) y q → (q ≡ f) × (y ≡ h i)) where
-  made_at : (ys : List B) (i n : ℕ) → i + n ≤ all → IsFromFnResultFrom g f ys i n → (j k : ℕ) (d : B) → k < n → i + k ≡ j → get_or ys j d ≡ h j
-  made_at ys i none fits calls j k d in_range at = absurd (omega arith)
-  made_at ys i (suc n) fits (q, y, is, call, rest) j none d in_range at =
-      subst (λ k. get_or ys k d ≡ h k) (sym (add-zero i) ∙ at) (is.1 d ∙ (same i y q (omega arith) call).1)
-  made_at ys i (suc n) fits (q, y, is, call, rest) j (suc k) d in_range at =
-      made_at ys (i + 1) n (omega arith) (subst (λ p. IsFromFnResultFrom g p ys (i + 1) n) (same i y q (omega arith) call).0 rest) j k d (omega arith) (omega arith)
-
-  pub made : (ys : List B) → IsFromFnResult g f ys all → ys ≡ map h (range_with_len 0 all)
-  made ys calls = fill_by_all h ys all (h 0) calls.long (λ k in_range. made_at ys 0 all (omega arith) calls.each k k (h 0) in_range (omega arith))
-
--- `map`
 module _ {F A B : Type 0} (g : Mut F (A × Unit {0}) B) (h : A → B) (f : F) (same : (x : A) (y : B) (q : F) → Called g f (x, tt) y q → (q ≡ f) × (y ≡ h x)) where
   mapped_at : (xs : List A) (ys : List B) (i n : ℕ) → MapsFrom g f xs ys i n → (j k : ℕ) (d : B) → k < n → i + k ≡ j → j < length xs → get_or ys j d ≡ get_or (map h xs) j d
   mapped_at xs ys i none calls j k d in_range at within = absurd (omega arith)
