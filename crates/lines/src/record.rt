@@ -31,7 +31,8 @@ pub struct Coded {
     pub at: u16,
 }
 
-// The eleven bytes of the record of a line, written out: five pairs in an array would have to be flattened. A line that was carried out answers a word: 0 where there is none.
+// The eleven bytes of the record of a line. One that was carried out answers a word: 0 where there is none. Written out, since
+// five pairs in an array would have to be flattened.
 pub fn record(answer: Result<u32, Coded>) -> [u8; 11]
     ensures { result ≡ record_of answer }
 {
