@@ -17,7 +17,7 @@ number_of (Err refusal) = refusal.number
 -- a refusal's layer stands in the first two digits, its place or column in the last four
 abbrev pub word_of : Result ℕ Coded → ℕ
 word_of (Ok word) = word
-word_of (Err refusal) = layer_number refusal.layer * 0x1000000 + refusal.at
+word_of (Err refusal) = refusal.layer * 0x1000000 + refusal.at
 
 -- the two digits of a byte, the higher one first
 abbrev pub two : ℕ → List ℕ

@@ -1,5 +1,5 @@
-ghost use Rattle.std.specs.Prelude.{◌≡◌};
-ghost use Rattle.lines.specs.Records.{layer_number, number_of, word_of, two, record_of};
+ghost use Rattle.std.specs.Prelude.{◌≡◌, Err};
+ghost use Rattle.lines.specs.Records.{layer_number, word_of, two, written, record_of};
 
 use crate::digits::letter;
 
@@ -11,10 +11,10 @@ pub enum Layer {
     Station,
 }
 
-impl From<Layer> for u32 {
+impl From<Layer> for u8 {
     ghost from_gives = { λ layer number. number ≡ layer_number layer };
 
-    fn from(layer: Layer) -> u32 {
+    fn from(layer: Layer) -> u8 {
         match layer {
             Layer::Line => 1,
             Layer::Bench => 2,
@@ -23,41 +23,53 @@ impl From<Layer> for u32 {
     }
 }
 
-// A refusal as its record carries it: its number, its layer, and a place or a column.
+impl From<Layer> for u32 {
+    ghost from_gives = { λ layer number. number ≡ layer_number layer };
+
+    fn from(layer: Layer) -> u32 {
+        u32::from(u8::from(layer))
+    }
+}
+
+// A refusal as its record carries it: its number, that of its layer, and a place or a column.
 #[derive(Clone, Copy, PartialEq, Eq, Debug)]
 pub struct Coded {
     pub number: u8,
-    pub layer: Layer,
+    pub layer: u8,
     pub at: u16,
 }
 
-// The eleven bytes of the record of a line. One that was carried out answers a word: 0 where there is none. Written out, since
-// five pairs in an array would have to be flattened.
+impl Coded {
+    // Layer and place by arithmetic: as four bytes put together it is no shorter.
+    fn word(self) -> u32
+        ensures { result ≡ word_of (Err self) }
+    {
+        u32::from(self.layer) * 0x100_0000 + u32::from(self.at)
+    }
+}
+
+// The eleven bytes of the record of a line. One that was carried out answers a word: 0 where there is none. By a match on the
+// answer: what is known of a refusal is then known of its digits, which are half of the work for a short line.
 pub fn record(answer: Result<u32, Coded>) -> [u8; 11]
     ensures { result ≡ record_of answer }
 {
-    let [n1, n0] = two(number(answer));
-    let [a, b, c, d] = word(answer).to_be_bytes();
+    match answer {
+        Ok(word) => written(0, word),
+        Err(refusal) => written(refusal.number, refusal.word()),
+    }
+}
+
+// A number in two digits and a word in eight. Written out, since five pairs in an array would have to be flattened.
+fn written(number: u8, word: u32) -> [u8; 11]
+    ensures { result ≡ written number word }
+{
+    let [n1, n0] = two(number);
+    let [a, b, c, d] = word.to_be_bytes();
     let [a1, a0] = two(a);
     let [b1, b0] = two(b);
     let [c1, c0] = two(c);
     let [d1, d0] = two(d);
     [n1, n0, a1, a0, b1, b0, c1, c0, d1, d0, b'\n']
-}
-
-fn number(answer: Result<u32, Coded>) -> u8
-    ensures { result ≡ number_of answer }
-{
-    answer.map_or_else(|refusal| refusal.number, |_| 0)
-}
-
-// Layer and place by arithmetic: as four bytes put together it is no shorter.
-fn word(answer: Result<u32, Coded>) -> u32
-    ensures { result ≡ word_of answer }
-{
-    answer.unwrap_or_else(|refusal| {
-        u32::from(refusal.layer) * 0x100_0000 + u32::from(refusal.at)
-    })
 }
 
 // The two digits of a byte, the higher one first.

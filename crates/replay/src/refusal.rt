@@ -40,7 +40,7 @@ impl Refusal {
         };
         Coded {
             number,
-            layer: self.layer(),
+            layer: u8::from(self.layer()),
             at,
         }
     }
