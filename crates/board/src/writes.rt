@@ -10,8 +10,8 @@ use guards::watchdog::Control;
 
 impl Board {
     // Interrupts are taken back where a 1 stands.
-    pub fn status_cleared(mut self, value: u32) -> Board
-        ensures { result ≡ status_cleared self value }
+    fn clear_status(&mut self, value: u32)
+        ensures { self.new ≡ status_cleared self.old value }
     {
         clear_all(&mut self.encoders, value);
         self.low.chip = self.low.chip.cleared(bit(value, 16), bit(value, 18));
@@ -19,19 +19,25 @@ impl Board {
         self.watchdog = self.watchdog.cleared(bit(value, 21));
         self.sense = self.sense.cleared(bit(value, 22));
         self.fuse = self.fuse.cleared(bit(value, 23));
+    }
+
+    // The board after that.
+    pub fn status_cleared(mut self, value: u32) -> Board
+        ensures { result ≡ status_cleared self value }
+    {
+        self.clear_status(value);
         self
     }
 
     // The control register: its bits are stored, then the conversions start that are asked for.
-    fn controlled(mut self, value: u32) -> Board
-        ensures { result ≡ controlled self value }
+    fn control_by(&mut self, value: u32)
+        ensures { self.new ≡ controlled self.old value }
     {
         let select_low = (value / 0x100 % 16) as u8;
         let select_high = (value / 0x1_0000 % 16) as u8;
         self.sense = self.sense.with_active(bit(value, 0));
         self.low = self.low.controlled(select_low, bit(value, 6));
         self.high = self.high.controlled(select_high, bit(value, 7));
-        self
     }
 
     // The watchdog's control register.
@@ -47,12 +53,12 @@ impl Board {
         self
     }
 
-    fn with_preset(mut self, number: u8, value: u32) -> Board
-        ensures { result ≡ with_preset self (number % 8) value }
+    // The preset of an encoder, modulo 8.
+    fn put_preset(&mut self, number: u8, value: u32)
+        ensures { self.new ≡ with_preset self.old (number % 8) value }
     {
         let n = usize::from(number % 8);
         self.encoders[n] = self.encoders[n].with_preset(Count::of(value));
-        self
     }
 
     // The board after an allowed write.
@@ -61,8 +67,8 @@ impl Board {
     {
         match register {
             Register::InterruptEnable => self.enabled = value,
-            Register::InterruptStatus => self = self.status_cleared(value),
-            Register::Control => self = self.controlled(value),
+            Register::InterruptStatus => self.clear_status(value),
+            Register::Control => self.control_by(value),
             Register::Preload => self.watchdog = self.watchdog.with_preload(value),
             Register::WatchdogControl => self = self.guarded(value),
             Register::Digital => self.port = self.port.with_latch(value),
@@ -72,7 +78,7 @@ impl Board {
             Register::Modes => self.outputs = self.outputs.moded(value),
             Register::EncoderModes => enable_all(&mut self.encoders, value),
             Register::EncoderCommand => command_all(&mut self.encoders, value),
-            Register::Encoder { number } => self = self.with_preset(number, value),
+            Register::Encoder { number } => self.put_preset(number, value),
             // What can only be read.
             Register::Status | Register::Results => {}
         }

@@ -3,10 +3,12 @@ ghost use Rattle.board.specs.Boards.{ticked};
 ghost use Rattle.board.specs.Registers.{numbered};
 ghost use Rattle.board.specs.Wires.{wire_numbered};
 ghost use Rattle.card.specs.Cards.{card, write_board, wire_board, armed_board};
+ghost use Rattle.board.specs.Writes.{with_watchdog};
+ghost use Rattle.guards.specs.Watchdogs.{with_preload};
 ghost use Rattle.card.specs.Quiet.{hold};
 ghost use Rattle.card.specs.Calling.{card_rules};
 
-use crate::settled::{facts, hold, line};
+use crate::settled::{facts, hold, line, set_watchdog};
 use crate::whole::Card;
 use board::parts::Board;
 use board::register::Register;
@@ -41,9 +43,17 @@ fn wire_board(board: Board, wire: u8, level: u32) -> Result<Board, Refusal>
     board.wired(Wire::try_from(wire)?, level)
 }
 
-// Arming writes EN, LD, ACT and SEL as 1.
-fn armed_board(board: Board) -> Board
-    ensures { result ≡ armed_board board }
+// A number of ticks is put into the preload, then the hold.
+fn preload_board(board: &mut Board, ticks: u32)
+    ensures { board.new ≡ hold (with_watchdog board.old (with_preload board.old.watchdog ticks)) }
+{
+    let watchdog = board.watchdog.with_preload(ticks);
+    set_watchdog(board, watchdog);
+}
+
+// Arming writes EN, LD, ACT and SEL as 1, then the hold.
+fn arm_board(board: &mut Board)
+    ensures { board.new ≡ hold (armed_board board.old) }
 {
     let watchdog = board.watchdog.controlled(Control {
         enabled: true,
@@ -51,7 +61,7 @@ fn armed_board(board: Board) -> Board
         active: true,
         selected: true,
     });
-    Board { watchdog, ..board }
+    set_watchdog(board, watchdog);
 }
 
 impl Station for Card {
@@ -105,16 +115,12 @@ impl Station for Card {
     }
 
     fn preload(&mut self, _place: Place, ticks: u32) -> Result<(), Refusal> {
-        let board = Board {
-            watchdog: self.board.watchdog.with_preload(ticks),
-            ..self.board
-        };
-        *self = Card::settled(board);
+        preload_board(&mut self.board, ticks);
         Ok(())
     }
 
     fn arm(&mut self, _place: Place) -> Result<(), Refusal> {
-        *self = Card::settled(armed_board(self.board));
+        arm_board(&mut self.board);
         Ok(())
     }
 

@@ -1,10 +1,12 @@
 ghost use Rattle.std.specs.Prelude.{◌≡◌};
+ghost use Rattle.board.specs.Writes.{with_watchdog};
 ghost use Rattle.card.specs.Cards.{settled, fresh_card};
 ghost use Rattle.card.specs.Facts.{line, seen};
 ghost use Rattle.card.specs.Quiet.{hold};
 
 use crate::whole::Card;
 use board::parts::Board;
+use guards::watchdog::Watchdog;
 use outputs::channels::Outputs;
 use station::facts::Facts;
 
@@ -16,6 +18,14 @@ pub(crate) fn hold(board: &mut Board)
         board.outputs = Outputs::silent();
         board.port = board.port.with_direction(0);
     }
+}
+
+// Another watchdog, then the hold. In place: a board that is copied takes most of the time of a call.
+pub(crate) fn set_watchdog(board: &mut Board, watchdog: Watchdog)
+    ensures { board.new ≡ hold (with_watchdog board.old watchdog) }
+{
+    board.watchdog = watchdog;
+    hold(board);
 }
 
 // The level that a card sends on: with SEL low exactly while it is held, else the watchdog's output.
