@@ -21,7 +21,7 @@ impl Board {
         self.fuse = self.fuse.cleared(bit(value, 23));
     }
 
-    // The board after that.
+    // The board with the interrupts taken back where a 1 stands.
     pub fn status_cleared(mut self, value: u32) -> Board
         ensures { result ≡ status_cleared self value }
     {

@@ -2,13 +2,13 @@ ghost use Rattle.std.specs.Prelude.{◌≡◌};
 ghost use Rattle.board.specs.Boards.{ticked};
 ghost use Rattle.board.specs.Registers.{numbered};
 ghost use Rattle.board.specs.Wires.{wire_numbered};
-ghost use Rattle.card.specs.Cards.{card, write_board, wire_board, armed_board};
 ghost use Rattle.board.specs.Writes.{with_watchdog};
 ghost use Rattle.guards.specs.Watchdogs.{with_preload};
+ghost use Rattle.card.specs.Cards.{card, write_board, wire_board, armed_board};
 ghost use Rattle.card.specs.Quiet.{hold};
 ghost use Rattle.card.specs.Calling.{card_rules};
 
-use crate::settled::{facts, hold, line, set_watchdog};
+use crate::settled::{facts, hold, line, put_watchdog};
 use crate::whole::Card;
 use board::parts::Board;
 use board::register::Register;
@@ -48,7 +48,7 @@ fn preload_board(board: &mut Board, ticks: u32)
     ensures { board.new ≡ hold (with_watchdog board.old (with_preload board.old.watchdog ticks)) }
 {
     let watchdog = board.watchdog.with_preload(ticks);
-    set_watchdog(board, watchdog);
+    put_watchdog(board, watchdog);
 }
 
 // Arming writes EN, LD, ACT and SEL as 1, then the hold.
@@ -61,7 +61,7 @@ fn arm_board(board: &mut Board)
         active: true,
         selected: true,
     });
-    set_watchdog(board, watchdog);
+    put_watchdog(board, watchdog);
 }
 
 impl Station for Card {

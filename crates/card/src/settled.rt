@@ -21,7 +21,7 @@ pub(crate) fn hold(board: &mut Board)
 }
 
 // Another watchdog, then the hold. In place: a board that is copied takes most of the time of a call.
-pub(crate) fn set_watchdog(board: &mut Board, watchdog: Watchdog)
+pub(crate) fn put_watchdog(board: &mut Board, watchdog: Watchdog)
     ensures { board.new ≡ hold (with_watchdog board.old watchdog) }
 {
     board.watchdog = watchdog;
